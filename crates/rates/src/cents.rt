@@ -23,11 +23,11 @@ pub impl Rate for Cents as CentsRate {
     ghost means = { amountOf };
 
     fn still() -> Cents {
-        Cents::Whole(0)
+        Self::Whole(0)
     }
 
     fn none() -> Cents {
-        Cents::None
+        Self::None
     }
 
     fn join(self, other: Cents) -> Cents

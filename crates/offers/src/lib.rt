@@ -1,0 +1,3 @@
+// Offered trips: the rates of their lanes as text, and the price of a trip.
+pub mod offer;
+pub mod written;
