@@ -1,1 +1,4 @@
 pub mod Links
+pub mod Trips
+pub mod Climbs
+pub mod Theorems
