@@ -4,3 +4,6 @@ pub mod Pigeonhole
 pub mod BestExists
 pub mod LaneChange
 pub mod Climb
+pub mod Reverse
+pub mod Tables
+pub mod Shown

@@ -72,7 +72,7 @@ module _ {M : Type 0} (K : Kind M) (X : Laws K) where
   reached-better {m} {u} {v} {r} {s} p q =
       ⊎-elim (λ e. subst (Reached m u v) (sym e) p) (λ e. subst (Reached m u v) (sym e) q) (better-of-either K X r s)
 
-  pub trip-fewer : {m whole : LaneMap M} → Fewer K m whole → {u v : ℕ} → Trip K m u v → Trip K whole u v
+  unfoldable pub trip-fewer : {m whole : LaneMap M} → Fewer K m whole → {u v : ℕ} → Trip K m u v → Trip K whole u v
   trip-fewer f stay = stay
   trip-fewer f {u} (go x s t) = go x (λ e. s (f u x s ∙ e)) (trip-fewer f t)
 
