@@ -9,7 +9,7 @@ use lib.IntN.{ℤ, pos, negsuc, _+ℤ_, natAbs}
 use lib.Signed.{ltZ, leZ, _≤ℤ_, _<ℤ_}
 use Rattle.std.proofs.shelf.Signed.{ints, by-ltZ}
 use Rattle.std.proofs.shelf.Tests.{and-parts}
-use Rattle.rates.specs.Kinds.{Kind, Laws, NoWorse}
+use Rattle.rates.specs.Kinds.{Kind, Laws, Strictness, NoWorse}
 use Rattle.rates.specs.Amounts.{Amount, centsKind, sum, less, magnitude, is-lane-amount}
 use Rattle.rates.specs.Amounts.Amount.{no-amount, whole}
 
@@ -99,3 +99,12 @@ cents-laws = record {
   limit-bounded = omega arith;
   lane-rate-not-none = lane-stands;
 }
+
+keeps-better : (a b c : Amount) → less a b ≡ true → (c ≡ no-amount → ⊥) → less (sum a c) (sum b c) ≡ true
+keeps-better a b no-amount e n = absurd (n refl)
+keeps-better no-amount b (whole z) e n = absurd (false≢true e)
+keeps-better (whole x) no-amount (whole z) e n = refl
+keeps-better (whole x) (whole y) (whole z) e n = grind (arith, ints, e)
+
+pub cents-strict : Strictness centsKind
+cents-strict = record { join-keeps-better = keeps-better }

@@ -64,7 +64,7 @@ module _ {M : Type 0} (K : Kind M) (X : Laws K) where
   over-reached (suc n) f h = reached-better K X (over-reached n f h) (h n)
 
   -- the best rate of the trips of at most k lanes over terminals below n
-  abbrev within : LaneMap M → ℕ → ℕ → ℕ → ℕ → M
+  abbrev pub within : LaneMap M → ℕ → ℕ → ℕ → ℕ → M
   within m n zero u v = cond (eqb u v) (K .still) (K .none)
   within m n (suc k) u v = better-of K (within m n k u v) (over n (λ w. K .join (m u w) (within m n k w v)))
 
@@ -74,7 +74,7 @@ module _ {M : Type 0} (K : Kind M) (X : Laws K) where
       ⊎-elim inl (λ s. inr (go w (none-stands-not K X s) stay, X .join-commutative (m u w) (K .still) ∙ X .still-joins-to-same (m u w)))
       (none-or-stands K X (m u w))
 
-  within-reached : (m : LaneMap M) (n k u v : ℕ) → Reached K X m u v (within m n k u v)
+  pub within-reached : (m : LaneMap M) (n k u v : ℕ) → Reached K X m u v (within m n k u v)
   within-reached m n zero u v =
       cond-both (eqb u v) (K .still) (K .none) (Reached K X m u v)
       (λ e. subst (λ x. Reached K X m u x (K .still)) (eqb-true u v e) (reached-stay K X)) (λ e. inl refl)

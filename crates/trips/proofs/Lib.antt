@@ -7,3 +7,6 @@ pub mod Climb
 pub mod Reverse
 pub mod Tables
 pub mod Shown
+pub mod ExampleTests
+pub mod CrossingTest
+pub mod ExamplesShown

@@ -2,3 +2,4 @@ pub mod Links
 pub mod Trips
 pub mod Climbs
 pub mod Theorems
+pub mod Examples
