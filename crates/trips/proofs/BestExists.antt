@@ -94,7 +94,7 @@ module _ {M : Type 0} (K : Kind M) (X : Laws K) where
   within-unbeaten {m} n o (suc k) {u} {v} (go w s t) l =
       le-trans K X (better-of-second K X (within m n k u v) (over n (λ x. K .join (m u x) (within m n k x v))))
       (le-trans K X (over-no-worse n (λ x. K .join (m u x) (within m n k x v)) w (o u w s .1))
-        (join-right K X (m u w) (within-unbeaten n o k t (omega arith))))
+      (join-right K X (m u w) (within-unbeaten n o k t (omega arith))))
 
   -- the best rate of the trips of at most n - 1 lanes is the best of all
   pub best-exists : {m : LaneMap M} (n : ℕ) → Over K n m → NoEarning K m → (u v : ℕ) → (r : M) × Best K X m u v r
@@ -103,8 +103,8 @@ module _ {M : Type 0} (K : Kind M) (X : Laws K) where
     record {
       reached = within-reached m n (n - 1) u v;
       unbeaten = λ t.
-        let s = shorten K X ne t in
-        le-trans K X (within-unbeaten n o (n - 1) (s .trip) (few-lanes n o (s .trip) (s .none-twice))) (s .no-worse);
+          let s = shorten K X ne t in
+          le-trans K X (within-unbeaten n o (n - 1) (s .trip) (few-lanes n o (s .trip) (s .none-twice))) (s .no-worse);
     },
   )
 
@@ -119,6 +119,6 @@ module _ {M : Type 0} (K : Kind M) (X : Laws K) where
       ⊎-elim
       (λ e. omega (arith, ap (K .size) e, X .none-size))
       (λ t.
-        let s = simple-best ne b (t .0) (t .1) in
-        omega (arith, ap (K .size) (s .2), rate-size L h (s .0), mul-le-mul-right L (few-lanes n o (s .0) (s .1))))
+      let s = simple-best ne b (t .0) (t .1) in
+      omega (arith, ap (K .size) (s .2), rate-size L h (s .0), mul-le-mul-right L (few-lanes n o (s .0) (s .1))))
       (b .reached)

@@ -46,13 +46,13 @@ order-tested other a b c d (inr (p, q)) e =
 straddles-decided : (one other : Ends) → Decides (straddles-test one other) (Straddles one other)
 straddles-decided one other = (
   λ e. ⊎-elim (order-found one other (one .from) (one .to) (inl (refl, refl))) (order-found one other (one .to) (one .from) (inr (refl, refl)))
-    (or-cases (either-order (one .from) (one .to) other) (either-order (one .to) (one .from) other) e),
+      (or-cases (either-order (one .from) (one .to) other) (either-order (one .to) (one .from) other) e),
   λ s.
-    let t = order-tested other (s .a) (s .b) (s .c) (s .d) (s .other-ends) (in-turn-from (s .a) (s .b) (s .c) (s .d) (s .a-c) (s .c-b) (s .b-d)) in
-    ⊎-elim
-    (λ n. or-left (either-order (one .from) (one .to) other) (either-order (one .to) (one .from) other) (ap (λ x. either-order x (one .to) other) (n .0) ∙ ap (λ y. either-order (s .a) y other) (n .1) ∙ t))
-    (λ n. or-right (either-order (one .from) (one .to) other) (either-order (one .to) (one .from) other) (ap (λ x. either-order x (one .from) other) (n .1) ∙ ap (λ y. either-order (s .a) y other) (n .0) ∙ t))
-    (s .ends),
+      let t = order-tested other (s .a) (s .b) (s .c) (s .d) (s .other-ends) (in-turn-from (s .a) (s .b) (s .c) (s .d) (s .a-c) (s .c-b) (s .b-d)) in
+      ⊎-elim
+      (λ n. or-left (either-order (one .from) (one .to) other) (either-order (one .to) (one .from) other) (ap (λ x. either-order x (one .to) other) (n .0) ∙ ap (λ y. either-order (s .a) y other) (n .1) ∙ t))
+      (λ n. or-right (either-order (one .from) (one .to) other) (either-order (one .to) (one .from) other) (ap (λ x. either-order x (one .from) other) (n .1) ∙ ap (λ y. either-order (s .a) y other) (n .0) ∙ t))
+      (s .ends),
 )
 
 abbrev pub cross-test : Ends → Ends → Bool

@@ -87,9 +87,11 @@ module _ {M : Type 0} (K : Kind M) (X : Laws K) (m : LaneMap M) (n : ℕ) where
   relaxed e = record {
     staying-no-better = λ u l. subst (NoWorse K (table u u)) (staying e u l) (le-refl K X (table u u));
     lane-betters-none = λ u v w l k j s.
-      let p = and-parts (every n (λ u. same-test (table u u) (K .still))) (every n (λ u. every n (λ v. every n (λ w. no-better (K .join (table u v) (m v w)) (table u w))))) e in
-      record { fact = not-true (K .better (K .join (table u v) (m v w)) (table u w))
-        (at n (λ x. no-better (K .join (table u v) (m v x)) (table u x)) (at n (λ y. every n (λ x. no-better (K .join (table u y) (m y x)) (table u x))) (at n (λ z. every n (λ y. every n (λ x. no-better (K .join (table z y) (m y x)) (table z x)))) (p .1) u l) v k) w j) };
+        let p = and-parts (every n (λ u. same-test (table u u) (K .still))) (every n (λ u. every n (λ v. every n (λ w. no-better (K .join (table u v) (m v w)) (table u w))))) e in
+        record {
+          fact = not-true (K .better (K .join (table u v) (m v w)) (table u w))
+              (at n (λ x. no-better (K .join (table u v) (m v x)) (table u x)) (at n (λ y. every n (λ x. no-better (K .join (table u y) (m y x)) (table u x))) (at n (λ z. every n (λ y. every n (λ x. no-better (K .join (table z y) (m y x)) (table z x)))) (p .1) u l) v k) w j);
+        };
   }
 
   tested-earns-not : Over K n m → relaxed-test ≡ true → NoEarning K m
@@ -116,13 +118,13 @@ module _ {M : Type 0} (K : Kind M) (X : Laws K) (m : LaneMap M) (n : ℕ) where
       ⊎-elim
       (λ z. absurd (not-both K X (w .1) (subst (NoWorse K (K .still)) (sym z) (le-none K X (K .still)))))
       (λ t.
-        let better : K .better (rate K (t .0)) (K .still) ≡ true = ap (λ x. K .better x (K .still)) (t .1) ∙ w .1 in
-        record {
-          at = u;
-          trip = t .0;
-          some-lane = ⊎-elim (λ h. h) (λ z. absurd (not-both K X better (le-from K X (K .still) (rate K (t .0)) (sym z)))) (lanes-or-still (t .0));
-          earns = better;
-        })
+      let better : K .better (rate K (t .0)) (K .still) ≡ true = ap (λ x. K .better x (K .still)) (t .1) ∙ w .1 in
+      record {
+        at = u;
+        trip = t .0;
+        some-lane = ⊎-elim (λ h. h) (λ z. absurd (not-both K X better (le-from K X (K .still) (rate K (t .0)) (sym z)))) (lanes-or-still (t .0));
+        earns = better;
+      })
       (within-reached K X m n n u u)
 
 -- every lane of a list joins terminals below n
@@ -137,8 +139,8 @@ over-network k n (l ∷ ls) e u v s =
     let q = and-parts (ltb (l .from) n) (ltb (l .to) n) (p .0) in
     ⊎-elim
     (λ z.
-      let w = and-parts (eqb u (l .from)) (eqb v (l .to)) z in
-      (subst (λ x. x < n) (sym (eqb-true u (l .from) (w .0))) (ltb-true (l .from) n (q .0)), subst (λ x. x < n) (sym (eqb-true v (l .to) (w .1))) (ltb-true (l .to) n (q .1))))
+    let w = and-parts (eqb u (l .from)) (eqb v (l .to)) z in
+    (subst (λ x. x < n) (sym (eqb-true u (l .from) (w .0))) (ltb-true (l .from) n (q .0)), subst (λ x. x < n) (sym (eqb-true v (l .to) (w .1))) (ltb-true (l .to) n (q .1))))
     (λ z. over-network k n ls (p .1) u v (λ h. s (cond-false (eqb u (l .from) && eqb v (l .to)) (l .rate) (network k ls u v) z ∙ h)))
     (cases-bool (eqb u (l .from) && eqb v (l .to)))
 

@@ -49,12 +49,15 @@ module _ {M : Type 0} (K : Kind M) (X : Laws K) (m : LaneMap M) (a b : ℕ) (r :
     first-new v x (inl (t, e)) =
         inr (stay, t, le-from K X (K .join (K .still) (K .join r (rate K t))) (K .join r x) (X .still-joins-to-same (K .join r (rate K t)) ∙ ap (K .join r) e))
     first-new v x (inr (p, t, l)) =
-        inr (stay, t,
+        inr (
+          stay,
+          t,
           le-trans K X (join-left K X (K .join r (rate K t)) (around p))
-          (le-trans K X
-            (le-from K X (K .join (K .join r (rate K p)) (K .join r (rate K t))) (K .join r (K .join (rate K p) (K .join r (rate K t))))
+              (le-trans K X
+              (le-from K X (K .join (K .join r (rate K p)) (K .join r (rate K t))) (K .join r (K .join (rate K p) (K .join r (rate K t))))
               (X .join-associative r (rate K p) (K .join r (rate K t))))
-            (join-right K X r l)))
+              (join-right K X r l)),
+        )
 
     old-or-once : {u v : ℕ} (t : Trip K new u v) → OldOrOnce u v (rate K t)
     unfolding rate
@@ -62,12 +65,12 @@ module _ {M : Type 0} (K : Kind M) (X : Laws K) (m : LaneMap M) (a b : ℕ) (r :
     old-or-once {u} {v} (go w s t) =
         ⊎-elim
         (λ c.
-          subst (λ y. OldOrOnce y v (K .join (new u w) (rate K t))) (sym (c .0))
-          (subst (λ y. OldOrOnce a v (K .join y (rate K t))) (sym (c .2))
-            (first-new v (rate K t) (subst (λ y. OldOrOnce y v (rate K t)) (c .1) (old-or-once t)))))
+        subst (λ y. OldOrOnce y v (K .join (new u w) (rate K t))) (sym (c .0))
+        (subst (λ y. OldOrOnce a v (K .join y (rate K t))) (sym (c .2))
+        (first-new v (rate K t) (subst (λ y. OldOrOnce y v (rate K t)) (c .1) (old-or-once t)))))
         (λ e.
-          subst (λ y. OldOrOnce u v (K .join y (rate K t))) (sym e)
-          (first-old u w v (λ z. s (e ∙ z)) (rate K t) (old-or-once t)))
+        subst (λ y. OldOrOnce u v (K .join y (rate K t))) (sym e)
+        (first-old u w v (λ z. s (e ∙ z)) (rate K t) (old-or-once t)))
         (which u w)
 
     -- the two old trips of a closed one, put together, lead from b to a
@@ -76,9 +79,9 @@ module _ {M : Type 0} (K : Kind M) (X : Laws K) (m : LaneMap M) (a b : ℕ) (r :
     closed-once u x (inr (p, t, l)) =
         le-trans K X (around (append K X t p))
         (le-trans K X
-          (le-from K X (K .join r (rate K (append K X t p))) (K .join (rate K p) (K .join r (rate K t)))
-            (ap (K .join r) (rate-append K X t p ∙ X .join-commutative (rate K t) (rate K p)) ∙ left-commutative K X r (rate K p) (rate K t)))
-          l)
+        (le-from K X (K .join r (rate K (append K X t p))) (K .join (rate K p) (K .join r (rate K t)))
+        (ap (K .join r) (rate-append K X t p ∙ X .join-commutative (rate K t) (rate K p)) ∙ left-commutative K X r (rate K p) (rate K t)))
+        l)
 
     pub stays-without-earning : NoEarning K new
     stays-without-earning = no-earning K X (λ u t. closed-once u (rate K t) (old-or-once t))
@@ -101,15 +104,15 @@ module _ {M : Type 0} (K : Kind M) (X : Laws K) (m : LaneMap M) (a b : ℕ) (r :
       ⊎-elim
       (λ z. absurd (not-both K X e (subst (NoWorse K (K .still)) (sym (ap (K .join r) z ∙ join-none K X r)) (le-none K X (K .still)))))
       (λ t.
-        let s = simple-best K X ne best (t .0) (t .1) in
-        let k = keeps (s .0) (s .1) in
-        let around : K .join (new a b) (rate K (k .0)) ≡ K .join r q = ap (λ y. K .join y (rate K (k .0))) new-lane ∙ ap (K .join r) (k .1 ∙ s .2) in
-        record {
-          at = a;
-          trip = go b (λ z. stands (sym new-lane ∙ z)) (k .0);
-          some-lane = omega arith;
-          earns = ap (λ y. K .better y (K .still)) around ∙ e;
-        })
+      let s = simple-best K X ne best (t .0) (t .1) in
+      let k = keeps (s .0) (s .1) in
+      let around : K .join (new a b) (rate K (k .0)) ≡ K .join r q = ap (λ y. K .join y (rate K (k .0))) new-lane ∙ ap (K .join r) (k .1 ∙ s .2) in
+      record {
+        at = a;
+        trip = go b (λ z. stands (sym new-lane ∙ z)) (k .0);
+        some-lane = omega arith;
+        earns = ap (λ y. K .better y (K .still)) around ∙ e;
+      })
       (best .reached)
 
   -- some closed trip earns with the new rate exactly when the rate and the best way back beat still

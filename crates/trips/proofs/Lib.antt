@@ -10,3 +10,4 @@ pub mod Shown
 pub mod ExampleTests
 pub mod CrossingTest
 pub mod ExamplesShown
+pub mod ShortLoops

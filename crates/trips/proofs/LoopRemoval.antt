@@ -39,20 +39,21 @@ module _ {M : Type 0} (K : Kind M) (X : Laws K) where
   absent-not-passed x (go w s t) (n, h) (inr p) = absent-not-passed x t h p
 
   -- a trip cut at a stop: the part up to it, the part from it on
-  pub record Cut (m : LaneMap M) (u v x : ℕ) (r : M) : Type 0 where
+  pub record Cut (m : LaneMap M) (u v x : ℕ) (r : M) (n : ℕ) : Type 0 where
     pub front : Trip K m u x
     pub back : Trip K m x v
     pub back-none-twice : NoneTwice (stops K back)
     pub rates : r ≡ K .join (rate K front) (rate K back)
+    pub lanes-add : n ≡ lanes K front + lanes K back
 
-  cut-here : {m : LaneMap M} {u v : ℕ} (x : ℕ) (t : Trip K m u v) → NoneTwice (stops K t) → x ≡ u → Cut m u v x (rate K t)
-  unfolding rate
+  cut-here : {m : LaneMap M} {u v : ℕ} (x : ℕ) (t : Trip K m u v) → NoneTwice (stops K t) → x ≡ u → Cut m u v x (rate K t) (lanes K t)
+  unfolding rate lanes
   cut-here {m} {u} {v} x t h e =
-      subst (λ y. Cut m u v y (rate K t)) (sym e)
-      (record { front = stay; back = t; back-none-twice = h; rates = sym (X .still-joins-to-same (rate K t)) })
+      subst (λ y. Cut m u v y (rate K t) (lanes K t)) (sym e)
+      (record { front = stay; back = t; back-none-twice = h; rates = sym (X .still-joins-to-same (rate K t)); lanes-add = omega arith })
 
-  cut : {m : LaneMap M} {u v : ℕ} (x : ℕ) (t : Trip K m u v) → NoneTwice (stops K t) → Passes x t → Cut m u v x (rate K t)
-  unfolding rate stops
+  pub cut : {m : LaneMap M} {u v : ℕ} (x : ℕ) (t : Trip K m u v) → NoneTwice (stops K t) → Passes x t → Cut m u v x (rate K t) (lanes K t)
+  unfolding rate stops lanes
   cut x stay h e = cut-here x stay h e
   cut x (go w s t) h (inl e) = cut-here x (go w s t) h e
   cut {m} {u} x (go w s t) (a, h) (inr p) =
@@ -62,6 +63,7 @@ module _ {M : Type 0} (K : Kind M) (X : Laws K) where
         back = c .back;
         back-none-twice = c .back-none-twice;
         rates = ap (K .join (m u w)) (c .rates) ∙ sym (X .join-associative (m u w) (rate K (c .front)) (rate K (c .back)));
+        lanes-add = omega (arith, c .lanes-add);
       }
 
   -- Take a first lane u to w and a shortened rest. Where the rest does not pass u, put the lane before it.
@@ -71,20 +73,20 @@ module _ {M : Type 0} (K : Kind M) (X : Laws K) where
   shorten-step {m} ne u v w s t h =
       ⊎-elim
       (λ p.
-        let c = cut u (h .trip) (h .none-twice) p in
-        let loop = closed-no-better K X ne u (go w s (c .front)) in
-        record {
-          trip = c .back;
-          none-twice = c .back-none-twice;
-          no-worse =
+      let c = cut u (h .trip) (h .none-twice) p in
+      let loop = closed-no-better K X ne u (go w s (c .front)) in
+      record {
+        trip = c .back;
+        none-twice = c .back-none-twice;
+        no-worse =
             le-trans K X
             (subst (λ r. NoWorse K r (K .join (K .join (m u w) (rate K (c .front))) (rate K (c .back)))) (X .still-joins-to-same (rate K (c .back)))
-              (join-left K X (rate K (c .back)) loop))
+            (join-left K X (rate K (c .back)) loop))
             (le-trans K X
-              (le-from K X (K .join (K .join (m u w) (rate K (c .front))) (rate K (c .back))) (K .join (m u w) (rate K (h .trip)))
-                (X .join-associative (m u w) (rate K (c .front)) (rate K (c .back)) ∙ ap (K .join (m u w)) (sym (c .rates))))
-              (join-right K X (m u w) (h .no-worse)));
-        })
+            (le-from K X (K .join (K .join (m u w) (rate K (c .front))) (rate K (c .back))) (K .join (m u w) (rate K (h .trip)))
+            (X .join-associative (m u w) (rate K (c .front)) (rate K (c .back)) ∙ ap (K .join (m u w)) (sym (c .rates))))
+            (join-right K X (m u w) (h .no-worse)));
+      })
       (λ a. record { trip = go w s (h .trip); none-twice = (a, h .none-twice); no-worse = join-right K X (m u w) (h .no-worse) })
       (passes-or-absent u (h .trip))
 

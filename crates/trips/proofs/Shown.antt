@@ -44,8 +44,8 @@ module _ {M : Type 0} (K : Kind M) (X : Laws K) where
       ⊎-elim
       (λ e. absurd (rate-stands K X t (same K X (le-none K X (rate K t)) (subst (λ x. NoWorse K x (rate K t)) e (b .1 .unbeaten t)))))
       (λ s.
-        let simple = simple-best K X ne (b .1) (s .0) (s .1) in
-        (simple .0, simple .1, subst (BestRate K m u v) (sym (simple .2)) (rate-of-best K X (b .1))))
+      let simple = simple-best K X ne (b .1) (s .0) (s .1) in
+      (simple .0, simple .1, subst (BestRate K m u v) (sym (simple .2)) (rate-of-best K X (b .1))))
       (b .1 .reached)
 
   pub earning-tested : Earning-test K
@@ -95,38 +95,43 @@ module _ {M : Type 0} (K : Kind M) (X : Laws K) where
       from-list : (u : ℕ) (list : List ℕ) → Linked K m u list → (t : Trip K m u (final u list)) × SameStops K m u (final u list) list t
       from-list u [] h = (stay, record { stops-are = refl; linked = tt; ends-there = refl; rate-is = refl })
       from-list u (w ∷ list) (s, h) =
-          let t = from-list w list h in
-          (go w s (t .0), record {
-            stops-are = ap (λ x. u ∷ x) (t .1 .stops-are);
-            linked = (s, h);
-            ends-there = refl;
-            rate-is = ap (K .join (m u w)) (t .1 .rate-is);
-          })
+          let t = from-list w list h in (
+            go w s (t .0),
+            record {
+              stops-are = ap (λ x. u ∷ x) (t .1 .stops-are);
+              linked = (s, h);
+              ends-there = refl;
+              rate-is = ap (K .join (m u w)) (t .1 .rate-is);
+            },
+          )
+
       to-list : {u v : ℕ} (t : Trip K m u v) → (list : List ℕ) × SameStops K m u v list t
       to-list stay = ([], record { stops-are = refl; linked = tt; ends-there = refl; rate-is = refl })
       to-list {u} (go w s t) =
-          let l = to-list t in
-          (w ∷ l .0, record {
-            stops-are = ap (λ x. u ∷ x) (l .1 .stops-are);
-            linked = (s, l .1 .linked);
-            ends-there = l .1 .ends-there;
-            rate-is = ap (K .join (m u w)) (l .1 .rate-is);
-          })
+          let l = to-list t in (
+            w ∷ l .0,
+            record {
+              stops-are = ap (λ x. u ∷ x) (l .1 .stops-are);
+              linked = (s, l .1 .linked);
+              ends-there = l .1 .ends-there;
+              rate-is = ap (K .join (m u w)) (l .1 .rate-is);
+            },
+          )
 
   pub climb-is-best : Climb-is-best K
   climb-is-best m part terminals chosen seam table known b s row s-in shows = record {
     own-part = λ e c. rate-of-best K X (
-      own-best K X m part terminals seam (known .meeting) (known .no-earning) b e (known .chosen-inside b e c)
-      (λ c i j. table c (seam i) (seam j)) (λ c i j. best-of-rate K X (known .tables c (seam i) (seam j) (known .seam-chosen c i) (known .seam-chosen c j)))
-      (λ i. table b (seam i) e) (λ i. best-of-rate K X (known .tables b (seam i) e (known .seam-chosen b i) c))
-      b s s-in (λ i. row (seam i)) (λ i. best-of-rate K X (shows (seam i) (known .seam-chosen b i)))
-      (row e) (best-of-rate K X (shows e c)));
+        own-best K X m part terminals seam (known .meeting) (known .no-earning) b e (known .chosen-inside b e c)
+        (λ c i j. table c (seam i) (seam j)) (λ c i j. best-of-rate K X (known .tables c (seam i) (seam j) (known .seam-chosen c i) (known .seam-chosen c j)))
+        (λ i. table b (seam i) e) (λ i. best-of-rate K X (known .tables b (seam i) e (known .seam-chosen b i) c))
+        b s s-in (λ i. row (seam i)) (λ i. best-of-rate K X (shows (seam i) (known .seam-chosen b i)))
+        (row e) (best-of-rate K X (shows e c)));
     other-part = λ e c. rate-of-best K X (
-      other-best K X m part terminals seam (known .meeting) (known .no-earning) (not b) e (known .chosen-inside (not b) e c)
-      (λ c i j. table c (seam i) (seam j)) (λ c i j. best-of-rate K X (known .tables c (seam i) (seam j) (known .seam-chosen c i) (known .seam-chosen c j)))
-      (λ i. table (not b) (seam i) e) (λ i. best-of-rate K X (known .tables (not b) (seam i) e (known .seam-chosen (not b) i) c))
-      b s s-in (λ i. row (seam i)) (λ i. best-of-rate K X (shows (seam i) (known .seam-chosen b i)))
-      refl);
+        other-best K X m part terminals seam (known .meeting) (known .no-earning) (not b) e (known .chosen-inside (not b) e c)
+        (λ c i j. table c (seam i) (seam j)) (λ c i j. best-of-rate K X (known .tables c (seam i) (seam j) (known .seam-chosen c i) (known .seam-chosen c j)))
+        (λ i. table (not b) (seam i) e) (λ i. best-of-rate K X (known .tables (not b) (seam i) e (known .seam-chosen (not b) i) c))
+        b s s-in (λ i. row (seam i)) (λ i. best-of-rate K X (shows (seam i) (known .seam-chosen b i)))
+        refl);
   }
 
   rate-turned : (m : LaneMap M) (u v : ℕ) (r : M) → BestRate K m u v r → BestRate K (turned K X m) v u r
@@ -145,7 +150,7 @@ module _ {M : Type 0} (K : Kind M) (X : Laws K) where
   pub mirrored-climb-is-best : Mirrored-climb-is-best K
   mirrored-climb-is-best m part terminals chosen seam table known b t column t-in shows =
       let climbs = climb-is-best (turned K X m) (λ c. turned K X (part c)) terminals chosen seam (λ c u e. table c e u)
-                   (known-turned m part terminals chosen seam table known) b t column t-in (λ e c. rate-turned (part b) e t (column e) (shows e c)) in
+      (known-turned m part terminals chosen seam table known) b t column t-in (λ e c. rate-turned (part b) e t (column e) (shows e c)) in
       record {
         own-part = λ e c. rate-turned (turned K X m) t e _ (climbs .own-part e c);
         other-part = λ e c. rate-turned (turned K X m) t e _ (climbs .other-part e c);
@@ -154,15 +159,15 @@ module _ {M : Type 0} (K : Kind M) (X : Laws K) where
   pub rows-and-columns-meet : Rows-and-columns-meet K
   rows-and-columns-meet m part terminals chosen seam table known b s row s-in shows = record {
     different-parts = λ t column t-in ends. rate-of-best K X (
-      other-best K X m part terminals seam (known .meeting) (known .no-earning) (not b) t t-in
-      (λ c i j. table c (seam i) (seam j)) (λ c i j. best-of-rate K X (known .tables c (seam i) (seam j) (known .seam-chosen c i) (known .seam-chosen c j)))
-      (λ i. column (seam i)) (λ i. best-of-rate K X (ends (seam i) (known .seam-chosen (not b) i)))
-      b s s-in (λ i. row (seam i)) (λ i. best-of-rate K X (shows (seam i) (known .seam-chosen b i)))
-      refl);
+        other-best K X m part terminals seam (known .meeting) (known .no-earning) (not b) t t-in
+        (λ c i j. table c (seam i) (seam j)) (λ c i j. best-of-rate K X (known .tables c (seam i) (seam j) (known .seam-chosen c i) (known .seam-chosen c j)))
+        (λ i. column (seam i)) (λ i. best-of-rate K X (ends (seam i) (known .seam-chosen (not b) i)))
+        b s s-in (λ i. row (seam i)) (λ i. best-of-rate K X (shows (seam i) (known .seam-chosen b i)))
+        refl);
     same-part = λ t column direct t-in ends best. rate-of-best K X (
-      own-best K X m part terminals seam (known .meeting) (known .no-earning) b t t-in
-      (λ c i j. table c (seam i) (seam j)) (λ c i j. best-of-rate K X (known .tables c (seam i) (seam j) (known .seam-chosen c i) (known .seam-chosen c j)))
-      (λ i. column (seam i)) (λ i. best-of-rate K X (ends (seam i) (known .seam-chosen b i)))
-      b s s-in (λ i. row (seam i)) (λ i. best-of-rate K X (shows (seam i) (known .seam-chosen b i)))
-      direct (best-of-rate K X best));
+        own-best K X m part terminals seam (known .meeting) (known .no-earning) b t t-in
+        (λ c i j. table c (seam i) (seam j)) (λ c i j. best-of-rate K X (known .tables c (seam i) (seam j) (known .seam-chosen c i) (known .seam-chosen c j)))
+        (λ i. column (seam i)) (λ i. best-of-rate K X (ends (seam i) (known .seam-chosen b i)))
+        b s s-in (λ i. row (seam i)) (λ i. best-of-rate K X (shows (seam i) (known .seam-chosen b i)))
+        direct (best-of-rate K X best));
   }

@@ -73,9 +73,9 @@ module _ {M : Type 0} (K : Kind M) where
     -- two terminals: in different parts, and in the same one, where direct is the best rate within it
     pub record RatesMeet (b : Bool) (s : ℕ) (row : ℕ → M) : Type 0 where
       pub different-parts : (t : ℕ) (column : ℕ → M) → terminals (not b) t ≡ true → ColumnShows (part (not b)) t (chosen (not b)) column
-        → BestRate K m s t (by-seam row (table (not b)) (λ u _. column u) seam t)
+          → BestRate K m s t (by-seam row (table (not b)) (λ u _. column u) seam t)
       pub same-part : (t : ℕ) (column : ℕ → M) (direct : M) → terminals b t ≡ true → ColumnShows (part b) t (chosen b) column → BestRate K (part b) s t direct
-        → BestRate K m s t (better-of K direct (by-seam row (table (not b)) (λ u _. column u) seam t))
+          → BestRate K m s t (better-of K direct (by-seam row (table (not b)) (λ u _. column u) seam t))
 
   -- One climb gives the best rates over both parts.
   abbrev pub Climb-is-best : Type 0

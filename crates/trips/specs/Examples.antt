@@ -94,11 +94,11 @@ examples =
     ∷ says in-cents 3 (cents 0 1 (pos 5) ∷ []) (best 0 2 no-amount ∷ [])
     ∷ says in-cents 3 two-lanes (best 2 2 (whole (pos 0)) ∷ [])
     ∷ says in-tonnes 3
-      (record { from = 0; to = 1; rate = load-20 } ∷ record { from = 1; to = 2; rate = load-8 } ∷ record { from = 0; to = 2; rate = load-6 } ∷ [])
-      (best 0 2 load-8 ∷ [])
+    (record { from = 0; to = 1; rate = load-20 } ∷ record { from = 1; to = 2; rate = load-8 } ∷ record { from = 0; to = 2; rate = load-6 } ∷ [])
+    (best 0 2 load-8 ∷ [])
     ∷ says in-cents-before-tonnes 3
-      (record { from = 0; to = 1; rate = both (pos 5) load-20 } ∷ record { from = 1; to = 2; rate = both (negsuc 2) load-8 } ∷ record { from = 0; to = 2; rate = both (pos 2) load-6 } ∷ [])
-      (best 0 2 (both (pos 2) load-8) ∷ [])
+    (record { from = 0; to = 1; rate = both (pos 5) load-20 } ∷ record { from = 1; to = 2; rate = both (negsuc 2) load-8 } ∷ record { from = 0; to = 2; rate = both (pos 2) load-6 } ∷ [])
+    (best 0 2 (both (pos 2) load-8) ∷ [])
     ∷ crossing (link 0 2) (link 1 3)
     ∷ apart (link 0 2) (link 0 3)
     ∷ []
