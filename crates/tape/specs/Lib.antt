@@ -1,0 +1,10 @@
+pub mod Kinds
+pub mod Faults
+pub mod Tape
+pub mod Reads
+pub mod Contents
+pub mod Areas
+pub mod Views
+pub mod Writes
+pub mod Laws
+pub mod Tapes

@@ -1,0 +1,33 @@
+// The tape: records of a byte of kind and a body, their reader and their writer.
+mod contents;
+mod faults;
+mod fields;
+mod kinds;
+mod laws;
+mod reading;
+mod records;
+mod tapes;
+mod writing;
+
+pub use contents::Content;
+pub use contents::Ends;
+pub use contents::HeadFields;
+pub use contents::LaneRate;
+pub use contents::Placed;
+pub use faults::Fault;
+pub use faults::FaultFromTape;
+pub use faults::FaultFromWriting;
+pub use faults::Layer;
+pub use faults::Reason;
+pub use faults::TapeFault;
+pub use faults::WriteFault;
+pub use kinds::Kind;
+pub use laws::one_meaning;
+pub use laws::reads_back;
+pub use laws::ten_kinds;
+pub use laws::writes_back;
+pub use reading::Reader;
+pub use records::Record;
+pub use tapes::count_records;
+pub use tapes::rewrite;
+pub use tapes::write_all;

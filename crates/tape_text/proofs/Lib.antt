@@ -1,0 +1,5 @@
+mod Cuts
+mod Fields
+mod Lines
+mod Names
+mod Spelling

@@ -1,0 +1,1 @@
+use Rattle.tape_text.proofs.making.append.Needs as need

@@ -1,0 +1,4 @@
+pub mod Texts
+pub mod Parses
+pub mod Listings
+pub mod Making
