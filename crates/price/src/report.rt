@@ -1,4 +1,5 @@
 // The text of offers, line by line, and the table that is printed.
+ghost use Rattle.price.specs.Names.{Names};
 use offers::offer::Refusal;
 use offers::offer::price;
 use offers::written::CentsWritten;
@@ -71,7 +72,9 @@ pub struct Priced<R> {
 }
 
 // The kind that a line names, if it names one.
-fn kind_named(line: &str) -> Option<KindName> {
+fn kind_named(line: &str) -> Option<KindName>
+    ensures { λ r. ⌜ Names (now (line .entry)) r ⌝ }
+{
     match line {
         "cents" => Some(KindName::Cents),
         "tonnes" => Some(KindName::Tonnes),
@@ -232,7 +235,7 @@ fn report_group(rt: &LibcRuntime, kind: Option<KindName>, offers: &[Offer]) -> i
 }
 
 // Reads the text, and prints a table for each kind that it names.
-pub fn run(rt: &LibcRuntime) -> io::Result<()> {
+pub(crate) fn run(rt: &LibcRuntime) -> io::Result<()> {
     let heap = rt.alloc();
     let mut kind = None;
     let mut offers = Vec::new(heap);
