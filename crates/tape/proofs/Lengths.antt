@@ -1,8 +1,6 @@
 -- A record's body is as long as its kind says.
 -- Assumes nothing.
-use mathlib.Core.Path.{_≡_, refl, ap, _∙_}
-use Prim.Native.Nat.{ℕ, _+_}
-use native.Mathlib.Numerals.{add-one}
+use mathlib.Core.Path.{_≡_, refl}
 use lib.ListN.{length}
 use Rattle.tape.specs.declared.contents.Content.{Content}
 use Rattle.tape.specs.declared.contents.Content.the-variants.{Head, Link, PlanEnd, Post, Shut, Try, Keep, Withdraw, Quote, Route}

@@ -2,7 +2,7 @@
 -- Assumes nothing.
 use mathlib.Core.Path.{_≡_, refl, sym, ap, subst, _∙_}
 use mathlib.Core.List.{List, [], _∷_}
-use mathlib.Core.Logic.{_⊎_, inl, inr}
+use mathlib.Core.Logic.{inl, inr}
 use Prim.Native.Nat.{ℕ, zero, suc, _+_, _-_, _<_, _≤_}
 use native.Mathlib.Omega.{arith}
 use lib.ListN.{length, getD, take, drop}
@@ -10,7 +10,7 @@ use Rattle.std.proofs.shelf.Tests.{cases-lt}
 use Rattle.tape.specs.declared.kinds.Kind.{Kind}
 use Rattle.tape.specs.declared.faults.Reason.the-variants.{UnknownKind, CutShort}
 use Rattle.tape.specs.Kinds.{kindByte, bodyLength, Unknown}
-use Rattle.tape.specs.Tape.{Part, behind, Stands, UnknownAt, CutAt, Ending, regular, fault, From, at-end, at-unknown, at-cut, at-record}
+use Rattle.tape.specs.Tape.{Part, behind, Stands, CutAt, Ending, regular, fault, From, at-end, at-unknown, at-cut, at-record}
 use Rattle.tape.specs.Laws.{Meaning}
 use Rattle.tape.proofs.KindBytes.{same-kind, tell-kind}
 

@@ -1,9 +1,8 @@
 -- Pieces of an area that lie one behind another are one piece.
 -- Assumes nothing, but for the first byte that the area has one.
 use mathlib.Core.Path.{_≡_, refl, sym, ap, _∙_}
-use mathlib.Core.List.{List, [], _∷_, _++_}
+use mathlib.Core.List.{List, _∷_, _++_}
 use Prim.Native.Nat.{ℕ, _+_, _<_}
-use native.Mathlib.Omega.{arith}
 use lib.ListN.{length, getD, take, drop}
 use lib.Seq.{take-add}
 use Rattle.std.proofs.shelf.Lists.{drop-drop}

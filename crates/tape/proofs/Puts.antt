@@ -88,12 +88,6 @@ module _ (before v front bytes last : List ℕ) (at n k : ℕ) (is : v ≡ front
       ∙ ap (λ w. front ++ w) (append-nil last ∙ part)
       ∙ sym (append-assoc front bytes (drop (at + n) before))
 
-  pub longer-room : at + n ≤ length before
-  longer-room =
-      let room = s .room in
-      let l = ap length tail ∙ length-drop at before in
-      omega arith
-
 -- a refusal behind a front: the bytes would have gone past the area
 pub refused-behind : (before v front bytes last : List ℕ) (at k : ℕ) (f : WriteFault) → v ≡ front ++ drop at before → at ≡ length front → at ≤ length before → k ≡ length v - at → Refused bytes (take k (drop at v)) f last → length before < at + length bytes
 refused-behind before v front bytes last at k f is long inside rest r =

@@ -1,7 +1,7 @@
 -- A record's content has the record's own bytes.
 -- Assumes that the record stands in the tape.
-use mathlib.Core.Path.{_≡_, refl, sym, ap, subst, _∙_}
-use mathlib.Core.List.{List, [], _∷_, _++_}
+use mathlib.Core.Path.{_≡_, refl, sym, ap, _∙_}
+use mathlib.Core.List.{List, _++_}
 use Prim.Native.Nat.{ℕ, _+_, _≤_}
 use native.Mathlib.Omega.{arith}
 use denote.Ref.{now}
@@ -13,7 +13,7 @@ use Rattle.tape.specs.declared.contents.Placed.{Placed}
 use Rattle.tape.specs.declared.records.Record.{Record}
 use Rattle.tape.specs.Kinds.{bodyLength}
 use Rattle.tape.specs.Contents.{kindOf, bodyOf, recordBytes}
-use Rattle.tape.specs.Tape.{Part, behind, Stands}
+use Rattle.tape.specs.Tape.{behind, Stands}
 use Rattle.tape.specs.Reads.{part}
 use Rattle.tape.specs.Views.{Says}
 use Rattle.tape.specs.Laws.{partOf}

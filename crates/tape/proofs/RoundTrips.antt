@@ -2,12 +2,10 @@
 -- Assumes that fields fit their widths, where two contents are told apart by their bytes.
 use mathlib.Core.Path.{_≡_, refl, sym, ap, subst, _∙_}
 use mathlib.Core.List.{List, [], _∷_, _++_, map}
-use Prim.Native.Nat.{ℕ, suc, _+_, _<_, _≤_}
+use Prim.Native.Nat.{ℕ, suc, _+_}
 use native.Mathlib.Omega.{arith}
-use native.Mathlib.Nat.{add-assoc, add-zero}
-use native.Mathlib.Numerals.{add-one, one-add}
-use lib.ListN.{length, getD, take, drop}
-use Rattle.std.specs.Joined.{joined}
+use native.Mathlib.Numerals.{one-add}
+use lib.ListN.{length, take, drop}
 use Rattle.std.proofs.shelf.Lists.{append-assoc, append-nil, getD-at, drop-at, take-at, drop-all, drop-drop, drop-more, take-append-drop, length-append}
 use Rattle.tape.specs.declared.contents.Content.{Content}
 use Rattle.tape.specs.declared.contents.Placed.{Placed}

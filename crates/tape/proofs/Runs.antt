@@ -1,6 +1,6 @@
 -- A run of the reader: what it has shown so far, followed by the meaning of what is left, is the tape's meaning.
 -- Assumes what one call of the reader shows.
-use mathlib.Core.Path.{_≡_, refl, sym, ap, subst, _∙_}
+use mathlib.Core.Path.{_≡_, sym, ap, subst, _∙_}
 use mathlib.Core.List.{List, [], _∷_, _++_}
 use Prim.Native.Nat.{ℕ}
 use lib.ListN.{length}
@@ -13,7 +13,7 @@ use Rattle.tape.specs.declared.contents.Placed.{Placed}
 use Rattle.tape.specs.declared.faults.TapeFault.{TapeFault}
 use Rattle.tape.specs.declared.faults.Reason.{Reason}
 use Rattle.tape.specs.declared.faults.Reason.the-variants.{UnknownKind, CutShort, OutOfTurn, PlanTooLarge, TapeTooLong}
-use Rattle.tape.specs.Tape.{Part, behind, Stands, Ending, regular, faulty, From, at-end, at-unknown, at-cut, at-record, Means}
+use Rattle.tape.specs.Tape.{Part, Ending, regular, faulty, From, at-end, at-unknown, at-cut, at-record, Means}
 use Rattle.tape.specs.Laws.{partOf}
 use Rattle.tape.specs.Reads.{part, WrongAt, Faulted, Shown, NextIs, NextContentIs}
 

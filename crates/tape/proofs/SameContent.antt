@@ -8,7 +8,7 @@ use native.Mathlib.Omega.{arith}
 use lib.IntN.{ℤ, pos, negsuc}
 use lib.ListN.{getD}
 use mir.Syntax.{w32}
-use mir.Val.{toZ, ofZ, SFits}
+use mir.Val.{toZ, SFits}
 use Rattle.std.proofs.shelf.Signed.{toZ-ofZ}
 use Rattle.tape.specs.declared.kinds.Kind.{Kind}
 use Rattle.tape.specs.declared.contents.Ends.{Ends}
@@ -17,7 +17,7 @@ use Rattle.tape.specs.declared.contents.HeadFields.{HeadFields}
 use Rattle.tape.specs.declared.contents.Content.{Content}
 use Rattle.tape.specs.declared.contents.Content.the-variants.{Head, Link, PlanEnd, Post, Shut, Try, Keep, Withdraw, Quote, Route}
 use Rattle.tape.specs.declared.contents.Placed.{Placed}
-use Rattle.tape.specs.Contents.{two, four, bits, endsBytes, laneBytes, headBytes, kindOf, bodyOf}
+use Rattle.tape.specs.Contents.{bits, endsBytes, laneBytes, headBytes, kindOf, bodyOf}
 use Rattle.tape.specs.Tape.{Part}
 use Rattle.tape.specs.Laws.{EndsFit, LaneFits, HeadFits, Fits, AllFit, partOf, contentOf}
 use Rattle.tape.proofs.BigEndian.{bits-is}

@@ -1,6 +1,5 @@
 -- What a record says, and the bytes that say it: numbers are big-endian.
 -- Assumes that each field fits its width (a terminal 16 bits, the others 32, a rate kind 8), as the code's types have it.
-use mathlib.Core.Path.{_≡_}
 use mathlib.Core.List.{List, [], _∷_, _++_}
 use Prim.Native.Nat.{ℕ, _-_, _/_, _%_}
 use lib.IntN.{ℤ, pos, negsuc}

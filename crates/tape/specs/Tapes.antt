@@ -8,13 +8,12 @@ use lib.ListN.{length, take, drop}
 use Rattle.std.specs.declared.result.Result.{Result}
 use Rattle.std.specs.declared.result.Result.the-variants.{Ok, Err}
 use Rattle.tape.specs.declared.contents.Content.{Content}
-use Rattle.tape.specs.declared.contents.Placed.{Placed}
 use Rattle.tape.specs.declared.faults.Fault.{Fault}
 use Rattle.tape.specs.declared.faults.TapeFault.{TapeFault}
 use Rattle.tape.specs.declared.faults.WriteFault.{WriteFault}
 use Rattle.tape.specs.declared.faults.WriteFault.the-variants.{AreaTooShort}
 use Rattle.tape.specs.Faults.{toldTape, toldWriting}
-use Rattle.tape.specs.Tape.{Part, Ending, regular, faulty, Means}
+use Rattle.tape.specs.Tape.{Part, regular, faulty, Means}
 use Rattle.tape.specs.Writes.{Stored}
 use Rattle.tape.specs.Laws.{partOf, placed}
 

@@ -1,7 +1,7 @@
 -- The content of a record: the fields whose bytes are its body.
 -- Assumes nothing of the record; a body may be longer than its kind's, and the first bytes count.
 use mathlib.Core.Path.{_≡_}
-use Prim.Native.Nat.{ℕ, _<_, _≤_}
+use Prim.Native.Nat.{_<_, _≤_}
 use lib.ListN.{length}
 use denote.Ref.{now}
 use Rattle.std.specs.declared.result.Result.{Result}

@@ -1,6 +1,6 @@
 // Fields of bodies, read from bytes and put into an area. Numbers are big-endian.
 ghost use mathlib.Core.Path.{_≡_};
-ghost use Prim.Native.Nat.{ℕ, _+_, _≤_};
+ghost use Prim.Native.Nat.{_+_, _≤_};
 ghost use lib.ListN.{length};
 ghost use Rattle.tape.specs.Areas.{piece, putIn};
 ghost use Rattle.tape.specs.Contents.{two, four, bits, endsBytes, laneBytes, headBytes};

@@ -1,6 +1,6 @@
 // The reader: shows the records of a tape one after another.
 ghost use mathlib.Core.Path.{_≡_};
-ghost use Prim.Native.Nat.{ℕ, _≤_};
+ghost use Prim.Native.Nat.{_≤_};
 ghost use lib.ListN.{length};
 ghost use denote.Ref.{now};
 ghost use Rattle.tape.specs.Reads.{NextIs, NextContentIs};

@@ -1,6 +1,5 @@
 // Whole tapes: read to their end, written from a list of contents, and written again from what was read.
 ghost use mathlib.Core.Path.{_≡_};
-ghost use mathlib.Core.Bool.{Bool};
 ghost use lib.Dec.{leb};
 ghost use lib.ListN.{length};
 ghost use Rattle.tape.specs.Laws.{tapeBytes};

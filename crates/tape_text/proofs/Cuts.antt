@@ -1,9 +1,9 @@
 -- Cutting a text at a character that does not stand in its first part.
 -- Assumes nothing but an ASCII character.
-use mathlib.Core.Path.{_≡_, refl, sym, ap, subst, _∙_}
+use mathlib.Core.Path.{_≡_, refl, sym, ap, _∙_}
 use mathlib.Core.List.{List, [], _∷_, _++_}
-use mathlib.Core.Logic.{_⊎_, inl, inr}
-use mathlib.Core.Bool.{Bool, true, false, not, _&&_}
+use mathlib.Core.Logic.{inl, inr}
+use mathlib.Core.Bool.{Bool, true, not, _&&_}
 use Prim.Native.Nat.{ℕ, zero, suc, _+_, _<_, _^_}
 use native.Mathlib.Omega.{arith}
 use lib.Dec.{eqb}
@@ -14,9 +14,9 @@ use Rattle.std.specs.Written.{decimal, signed}
 use Rattle.std.proofs.shelf.Lists.{getD-at, length-append}
 use Rattle.std.proofs.shelf.Decimals.{digits-decimal}
 use Rattle.std.proofs.shelf.Numerals.{Numerals, numerals-by-value, tells-digits, not-in-digits}
-use Rattle.std.proofs.shelf.Tests.{eqb-true, eqb-false, and-parts, not-true}
+use Rattle.std.proofs.shelf.Tests.{eqb-false, and-parts, not-true}
 use Rattle.std.specs.Reads.{Digits, value}
-use Rattle.tape_text.specs.Parses.{Lacks, CutThere, NoCut, CutIs}
+use Rattle.tape_text.specs.Parses.{Lacks, CutIs}
 
 -- where a text begins with a part that lacks the character, the cut comes right behind that part
 first-part : (c : ℕ) (p q xs ys : List ℕ) → p ++ (c ∷ q) ≡ xs ++ (c ∷ ys) → Lacks p c → Lacks xs c → (p ≡ xs) × (q ≡ ys)

@@ -1,8 +1,8 @@
 -- A text read line by line: what has been read so far, followed by what the rest spells, is what the text spells.
 -- Assumes what one line is.
-use mathlib.Core.Path.{_≡_, refl, sym, ap, subst, _∙_}
+use mathlib.Core.Path.{_≡_, sym, ap, subst, _∙_}
 use mathlib.Core.List.{List, [], _∷_, _++_}
-use mathlib.Core.Logic.{_⊎_, inl, inr}
+use mathlib.Core.Logic.{inl, inr}
 use Prim.Native.Nat.{ℕ, _+_, _<_, _≤_}
 use native.Mathlib.Omega.{arith}
 use lib.ListN.{length, getD}
@@ -18,7 +18,7 @@ use Rattle.tape.specs.Laws.{Fits}
 use Rattle.tape_text.specs.declared.making.Line.{Line}
 use Rattle.tape_text.specs.declared.making.Line.the-variants.{Remark, Record, Bad}
 use Rattle.tape_text.specs.Texts.{textOf}
-use Rattle.tape_text.specs.Parses.{CutIs, ParsedAs}
+use Rattle.tape_text.specs.Parses.{ParsedAs}
 use Rattle.tape_text.specs.Making.{Trimmed, BehindPlace, IsRemark, OnLine, LineIs, FirstLine, Spells, nothing, remark, said, IsGood, BadAt, first, later}
 
 pub record SoFar (text rest : List ℕ) (number : ℕ) (done : List Content) : Type 0 where

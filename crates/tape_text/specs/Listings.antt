@@ -1,7 +1,7 @@
 -- A tape as a listing: a line for each record, then a line that says how the tape ends.
 -- Assumes nothing of the tape.
 use mathlib.Core.Path.{_≡_}
-use mathlib.Core.List.{List, [], _∷_, _++_, map}
+use mathlib.Core.List.{List, _++_, map}
 use Prim.Native.Nat.{ℕ}
 use lib.Chars.{codes}
 use lib.ListN.{length}

@@ -1,4 +1,3 @@
-use borrow.Author.Needs.{needs}
 use native.Mathlib.Omega.{arith}
 use Rattle.tape.proofs.Puts.{put-part}
 use Rattle.tape.proofs.fields.put_bytes.Needs as need

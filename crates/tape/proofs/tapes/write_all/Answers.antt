@@ -1,15 +1,15 @@
 use borrow.Author.Needs.{needs}
 use mathlib.Core.Path.{_≡_, refl, sym, ap, subst, _∙_}
-use mathlib.Core.List.{[], _∷_, _++_, map}
+use mathlib.Core.List.{[], _++_, map}
 use native.Mathlib.Omega.{arith}
-use Prim.Native.Nat.{_+_, _-_, _<_, _≤_}
+use Prim.Native.Nat.{_+_, _-_, _≤_}
 use lib.ListN.{length, take, drop, getD}
 use Rattle.std.proofs.shelf.Lists.{take-all, take-at}
 use Rattle.std.proofs.shelf.Tests.{leb-true}
 use Rattle.tape.specs.Contents.{recordBytes}
 use Rattle.tape.specs.Tape.{Means, regular}
 use Rattle.tape.specs.Laws.{tapeBytes, partOf, placed}
-use Rattle.tape.proofs.Puts.{longer-area, longer-room, refused-behind}
+use Rattle.tape.proofs.Puts.{longer-area, refused-behind}
 use Rattle.tape.proofs.RoundTrips.{read-from}
 use Rattle.tape.proofs.TapeBytes.{blank, tape-more, long-more, front-long, front-within}
 use Rattle.tape.proofs.tapes.write_all.Needs as need
