@@ -68,7 +68,7 @@ module _ {M : Type 0} (K : Kind M) (X : Laws K) where
   within m n zero u v = cond (eqb u v) (K .still) (K .none)
   within m n (suc k) u v = better-of K (within m n k u v) (over n (λ w. K .join (m u w) (within m n k w v)))
 
-  lane-reached : (m : LaneMap M) (u w : ℕ) → Reached K X m u w (m u w)
+  pub lane-reached : (m : LaneMap M) (u w : ℕ) → Reached K X m u w (m u w)
   unfolding rate
   lane-reached m u w =
       ⊎-elim inl (λ s. inr (go w (none-stands-not K X s) stay, X .join-commutative (m u w) (K .still) ∙ X .still-joins-to-same (m u w)))

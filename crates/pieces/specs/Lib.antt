@@ -1,0 +1,10 @@
+pub mod Sides
+pub mod Cuts
+pub mod Holding
+pub mod Division
+pub mod Order
+pub mod Statements
+pub mod Waiting
+pub mod Holders
+pub mod Marks
+pub mod Geometry

@@ -1,0 +1,3 @@
+pub mod Sides
+pub mod Checks
+pub mod Alike
