@@ -81,11 +81,11 @@ module _ {M : Type 0} (K : Kind M) (X : Laws K) (n : ℕ) (area table : List M) 
           ⊎-elim (λ k. k) (λ e. absurd (both-ways earns z (d .1 (u, l, e)))) (le-or-better K X (K .still) (entry K n table u u))
 
   -- the rate of a lane joined with the best way back is exact, and the theorem on one changed lane decides
-  pub tested : (from to : ℕ) → from < n → to < n → (rate joined : M) → K .lane rate ≡ true → (K .size rate + K .size (entry K n table to from) ≤ exact-size → joined ≡ K .join rate (entry K n table to from)) → (earns : Bool) → earns ≡ K .better joined (K .still) → LaneArea K n area → NoEarning K (lane-map K n area) → BestTable K n (lane-map K n area) table → Decides earns (Earning K (changed K (lane-map K n area) from to rate))
-  tested from to l k rate joined lane exact earns e h ne best =
+  pub tested : (from to : ℕ) → from < n → to < n → (rate joined still : M) → still ≡ K .still → K .lane rate ≡ true → (K .size rate + K .size (entry K n table to from) ≤ exact-size → joined ≡ K .join rate (entry K n table to from)) → (earns : Bool) → earns ≡ K .better joined still → LaneArea K n area → NoEarning K (lane-map K n area) → BestTable K n (lane-map K n area) table → Decides earns (Earning K (changed K (lane-map K n area) from to rate))
+  tested from to l k rate joined still s lane exact earns e h ne best =
       let q = entry K n table to from in
       let test = earning-tested K X (lane-map K n area) ne from to rate q lane (best to from k l) in
       let small = best-size K X n lane-size (lanes-below K X n area) (lanes-small K X n area h) ne (best-of-rate K X (best to from k l)) in
       let is = exact (omega (arith, small, X .lane-rate-size rate lane, X .limit-bounded, h .few .not-too-many)) in
-      let better : earns ≡ K .better (K .join rate q) (K .still) = e ∙ ap (λ x. K .better x (K .still)) is in
+      let better : earns ≡ K .better (K .join rate q) (K .still) = e ∙ ap (K .better joined) s ∙ ap (λ x. K .better x (K .still)) is in
       (λ z. test .1 (sym better ∙ z), λ z. better ∙ test .0 z)

@@ -124,7 +124,13 @@ pub fn best_rate<R: Rate>(n: usize, table: &[R], from: usize, to: usize) -> Resu
 
 // Whether a closed trip would earn if the lane from one terminal to another had this rate, by the table of best rates
 // of a network in which none earns: the rate and the best way back are then better than still.
-pub fn would_earn<R: Rate>(n: usize, table: &[R], from: usize, to: usize, rate: R) -> Result<bool, Refusal>
+pub fn would_earn<R: Rate>(
+    n: usize,
+    table: &[R],
+    from: usize,
+    to: usize,
+    rate: R,
+) -> Result<bool, Refusal>
     ensures { λ r. ⌜ Testing kind means n (now (table .entry)) from to (means rate) r ⌝ }
 {
     if let Some(why) = pair_refusal(n, table.len(), from, to) {
@@ -138,7 +144,13 @@ pub fn would_earn<R: Rate>(n: usize, table: &[R], from: usize, to: usize, rate: 
 }
 
 // Gives the lane from one terminal to another a rate, or none, where it is to stand no more. A refusal changes nothing.
-pub fn set_lane<R: Rate>(n: usize, lanes: &mut [R], from: usize, to: usize, rate: R) -> Result<(), Refusal>
+pub fn set_lane<R: Rate>(
+    n: usize,
+    lanes: &mut [R],
+    from: usize,
+    to: usize,
+    rate: R,
+) -> Result<(), Refusal>
     ensures { λ r. ⌜ ByOk r (λ _. LaneSet kind means n (now (lanes .entry)) (now (lanes .exit)) from to (means rate)) (λ why. LaneRefused kind n (now (lanes .entry)) (now (lanes .exit)) from to (means rate) why) ⌝ }
 {
     if let Some(why) = pair_refusal(n, lanes.len(), from, to) {

@@ -60,7 +60,7 @@ fn clear<R: Rate>(row: &mut [R])
 }
 
 // Fills a row with the rates from u that no trip of at most n lanes beats.
-pub fn row_from<R: Rate>(n: usize, lanes: &[R], u: usize, row: &mut [R])
+pub(crate) fn row_from<R: Rate>(n: usize, lanes: &[R], u: usize, row: &mut [R])
     requires { ⌜ LaneArea kind n (map means (now lanes)) ⌝ ∗ ⌜ length (now row) ≡ n ⌝ ∗ ⌜ u < n ⌝ }
     ensures { λ _. ⌜ Found kind (lane-map kind n (map means (now (lanes .entry)))) n u n (memberAt kind (map means (now (row .exit)))) ⌝ }
 {

@@ -22,7 +22,7 @@ returns-then-better g c =
     let below = c .loop-u-test .taken in
     let v = c .index-table-n in (
       λ _. loop-found K m n u (c .args .table .now) (v .result) (m (c .still .result)) (c .better .result)
-      (omega (arith, place-within n u u below below, c .pre .1)) (v .is) (c .still .ensures) (c .better .ensures) below (c .if-better .taken),
+          (omega (arith, place-within n u u below below, c .pre .1)) (v .is) (c .still .ensures) (c .better .ensures) below (c .if-better .taken),
       λ _. refl,
     )
 

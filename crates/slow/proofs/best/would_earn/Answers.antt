@@ -1,4 +1,4 @@
-use mathlib.Core.Path.{_≡_, sym, ap, subst, _∙_}
+use mathlib.Core.Path.{_≡_, sym, subst, _∙_}
 use mathlib.Core.Bool.{true}
 use mathlib.Core.List.{map}
 use Prim.Native.Nat.{_+_, _*_, _≤_}
@@ -33,7 +33,7 @@ returns g c =
     let lane : K .lane rate ≡ true = sym (c .is-lane-rate .ensures) ∙ c .if-not-is-lane-rate .left in (
       h,
       lane,
-      λ area. tested K X n area (map m table) from to (h .from-below) (h .to-below) rate (m (c .join .result)) lane
+      λ area. tested K X n area (map m table) from to (h .from-below) (h .to-below) rate (m (c .join .result)) (m (c .still .result)) (c .still .ensures) lane
           (subst (λ q. K .size rate + K .size q ≤ exact-size → m (c .join .result) ≡ K .join rate q) (sym back) (c .join .ensures))
-          (c .better .result) (c .better .ensures ∙ ap (K .better (m (c .join .result))) (c .still .ensures)),
+          (c .better .result) (c .better .ensures),
     )

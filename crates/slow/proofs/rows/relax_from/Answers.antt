@@ -29,15 +29,15 @@ loop-w-again g c =
     let rate = c .join-rate in
     elim (c .if-better .came) [
       | then-better way ↦
-        subst (λ list. Relaxed K (m base) (at K (map m out)) old (at K (map m list)) (w + 1) (c .if-better .changed)) (sym (way .row-is))
-        (subst (Relaxed K (m base) (at K (map m out)) old (at K (map m _)) (w + 1)) (sym (way .changed-is))
-        (value-stored K m out row old w base (lane .result) (held .result) (rate .result) (c .loop-w .changed)
-        (omega arith) (omega arith) (lane .is) (held .is) (rate .ensures) (c .loop-w .inv) (c .better .result) (c .better .ensures) (way .if-better .taken)))
+          subst (λ list. Relaxed K (m base) (at K (map m out)) old (at K (map m list)) (w + 1) (c .if-better .changed)) (sym (way .row-is))
+          (subst (Relaxed K (m base) (at K (map m out)) old (at K (map m _)) (w + 1)) (sym (way .changed-is))
+          (value-stored K m out row old w base (lane .result) (held .result) (rate .result) (c .loop-w .changed)
+          (omega arith) (omega arith) (lane .is) (held .is) (rate .ensures) (c .loop-w .inv) (c .better .result) (c .better .ensures) (way .if-better .taken)))
       | else-better way ↦
-        subst (λ list. Relaxed K (m base) (at K (map m out)) old (at K (map m list)) (w + 1) (c .if-better .changed)) (sym (way .row-is))
-        (subst (Relaxed K (m base) (at K (map m out)) old (at K (map m row)) (w + 1)) (sym (way .changed-is))
-        (value-kept K m out row old w base (lane .result) (held .result) (rate .result) (c .loop-w .changed)
-        (omega arith) (omega arith) (lane .is) (held .is) (rate .ensures) (c .loop-w .inv) (c .better .result) (c .better .ensures) (way .if-better .left)))
+          subst (λ list. Relaxed K (m base) (at K (map m out)) old (at K (map m list)) (w + 1) (c .if-better .changed)) (sym (way .row-is))
+          (subst (Relaxed K (m base) (at K (map m out)) old (at K (map m row)) (w + 1)) (sym (way .changed-is))
+          (value-kept K m out row old w base (lane .result) (held .result) (rate .result) (c .loop-w .changed)
+          (omega arith) (omega arith) (lane .is) (held .is) (rate .ensures) (c .loop-w .inv) (c .better .result) (c .better .ensures) (way .if-better .left)))
     ]
 
 pub returns : need.returns
