@@ -17,12 +17,12 @@ module _ (len w : ℕ → ℕ) (v l r wl wr : ℕ) (el : l ≡ left v) (er : r �
   pub right-heavier : wl < wr → r ≡ heavier len w v
   right-heavier lt =
       er ∙ sym (cond-true (ltb (w (left v)) (w (right len v))) (right len v) (left v)
-        (lt-ltb (w (left v)) (w (right len v)) (omega (arith, ap w el, ap w er))))
+      (lt-ltb (w (left v)) (w (right len v)) (omega (arith, ap w el, ap w er))))
 
   pub left-heavier : wr ≤ wl → l ≡ heavier len w v
   left-heavier le =
       el ∙ sym (cond-false (ltb (w (left v)) (w (right len v))) (right len v) (left v)
-        (le-ltb (w (left v)) (w (right len v)) (omega (arith, ap w el, ap w er))))
+      (le-ltb (w (left v)) (w (right len v)) (omega (arith, ap w el, ap w er))))
 
 module _ (len w : ℕ → ℕ) (most v : ℕ) where
   pub descend-stops : (f : ℕ) → w v ≤ most → descend len w most f v ≡ v

@@ -5,7 +5,13 @@ mod seam;
 mod sides;
 mod weights;
 
-pub use parts::{first_part, parted, second_part, single, whole};
+pub use parts::first_part;
+pub use parts::parted;
+pub use parts::second_part;
+pub use parts::single;
+pub use parts::whole;
 pub use seam::seam_of;
-pub use sides::{left_of, length_of, right_of};
+pub use sides::left_of;
+pub use sides::length_of;
+pub use sides::right_of;
 pub use weights::triangles;

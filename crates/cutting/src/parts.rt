@@ -6,8 +6,13 @@ ghost use Rattle.pieces.specs.Cuts.{around as aroundSide, chosen as chosenBy, f
 ghost use Rattle.pieces.specs.Sides.{endsOf, lengths};
 ghost use Rattle.records.specs.Few.{added, listed};
 ghost use Rattle.std.specs.shelf.Lists.{folded};
-use crate::sides::{high_end, length_of, lies_within, low_end, narrow};
-use records::{Few, Piece};
+use crate::sides::high_end;
+use crate::sides::length_of;
+use crate::sides::lies_within;
+use crate::sides::low_end;
+use crate::sides::narrow;
+use records::Few;
+use records::Piece;
 use ring::Side;
 
 // Where a hole stands as seen from a seam.
@@ -93,21 +98,25 @@ pub fn whole() -> Piece
 pub fn first_part(sides: &[Side], p: u16, piece: Piece, v: u16) -> Piece
     ensures { λ r. ⌜ r ≡ firstPart (lengths (now (sides .entry))) p piece v ⌝ }
 {
-    fresh(p, piece.level.saturating_add(1), v, inner_holes(sides, v, piece.holes))
+    let holes = inner_holes(sides, v, piece.holes);
+    fresh(p, piece.level.saturating_add(1), v, holes)
 }
 
 // The part of the piece p outside the seam v.
 pub fn second_part(sides: &[Side], p: u16, piece: Piece, v: u16) -> Piece
     ensures { λ r. ⌜ r ≡ secondPart (lengths (now (sides .entry))) p piece v ⌝ }
 {
-    fresh(p, piece.level.saturating_add(1), piece.top, outer_holes(sides, v, piece.holes))
+    let holes = outer_holes(sides, v, piece.holes);
+    fresh(p, piece.level.saturating_add(1), piece.top, holes)
 }
 
 // Both ends of the side h behind rising terminals.
 fn around(sides: &[Side], edges: Few, h: u16) -> Few
     ensures { λ r. ⌜ r ≡ aroundSide (endsOf (now (sides .entry))) edges h ⌝ }
 {
-    edges.push_rising(low_end(sides, h)).push_rising(high_end(sides, h))
+    edges
+        .push_rising(low_end(sides, h))
+        .push_rising(high_end(sides, h))
 }
 
 // The ends of the holes behind rising terminals.

@@ -4,7 +4,9 @@ ghost use Rattle.pieces.specs.Cuts.{descend as descendTo, four as fourSeams, mo
 ghost use Rattle.pieces.specs.Sides.{lengths};
 ghost use Rattle.records.specs.Few.{listed};
 use crate::sides::length_of;
-use crate::weights::{heavier, triangles, weight};
+use crate::weights::heavier;
+use crate::weights::triangles;
+use crate::weights::weight;
 use records::Few;
 use ring::Side;
 
@@ -15,7 +17,11 @@ const HOLES_BELOW: usize = 2;
 pub fn four(top: u16, holes: Few) -> bool
     ensures { λ r. ⌜ r ≡ fourSeams top (listed holes) ⌝ }
 {
-    let seams = if top == 0 { holes.len() } else { holes.len() + 1 };
+    let seams = if top == 0 {
+        holes.len()
+    } else {
+        holes.len() + 1
+    };
     seams == 4
 }
 
@@ -48,5 +54,12 @@ pub fn seam_of(sides: &[Side], top: u16, holes: Few) -> u16
     ensures { λ r. ⌜ r ≡ seamOf (lengths (now (sides .entry))) top (listed holes) ⌝ }
 {
     let by_holes = four(top, holes);
-    descend(sides, holes, by_holes, most(sides, top, holes), length_of(sides, top), top)
+    descend(
+        sides,
+        holes,
+        by_holes,
+        most(sides, top, holes),
+        length_of(sides, top),
+        top,
+    )
 }

@@ -5,7 +5,10 @@ ghost use Prim.Native.Nat.{_-_};
 ghost use Rattle.pieces.specs.Cuts.{heavier as heavierChild, load as loadOf, triangles as trianglesOf, weight as weightOf};
 ghost use Rattle.pieces.specs.Sides.{lengths, within};
 ghost use Rattle.records.specs.Few.{listed};
-use crate::sides::{left_of, length_of, lies_within, right_of};
+use crate::sides::left_of;
+use crate::sides::length_of;
+use crate::sides::lies_within;
+use crate::sides::right_of;
 use records::Few;
 use ring::Side;
 

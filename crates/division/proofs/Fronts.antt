@@ -54,5 +54,6 @@ module _ (n : ℕ) (ss : List Side) (ps ts : List Piece) (lent : Lent n ss ps ts
     where
       fk : Filled n (endsOf (take k ss))
       fk = subst (λ m. Filled n (endsOf (take m ss))) (sym is) fl
+
       dv : Division n (endsOf (take k ss)) ps′
       dv = divided n (endsOf (take k ss)) fk ps′ (d .records) refl

@@ -30,27 +30,37 @@ same-records n ss tt ss′ tt′ ps qs fl long same sk tk a b =
   where
     m : ℕ
     m = 2 * n - 3
+
     e : Ends
     e = frontEnds n ss
+
     es : frontEnds n tt ≡ frontEnds n ss
     es = same-ends (take (2 * n - 3) ss) (take (2 * n - 3) tt) same
+
     b′ : Divided n (frontEnds n ss) tt′ qs
     b′ = subst (λ x. Divided n x tt′ qs) es b
+
     pieces : take (2 * n - 5) ps ≡ take (2 * n - 5) qs
     pieces = records-once (a .records) (b′ .records)
+
     fronts : SameSides (take (2 * n - 3) ss′) (take (2 * n - 3) tt′)
     fronts = front-same (2 * n - 3) tt tt′ tk ∙ same ∙ sym (front-same (2 * n - 3) ss ss′ sk)
+
     ls : length (take (2 * n - 3) ss′) ≡ 2 * n - 3
     ls = length-take-le (2 * n - 3) ss′ (omega (arith, same-count ss ss′ sk))
+
     lt : length (take (2 * n - 3) tt′) ≡ 2 * n - 3
     lt = same-count (take (2 * n - 3) ss′) (take (2 * n - 3) tt′) fronts ∙ ls
+
     bares : (i : ℕ) → i < length (take (2 * n - 3) ss′) → bare (getD (take (2 * n - 3) ss′) i noSide) ≡ bare (getD (take (2 * n - 3) tt′) i noSide)
     bares i l =
         sym (getD-map bare (take (2 * n - 3) ss′) i noSide noSide l)
         ∙ ap (λ xs. getD xs i noSide) (sym fronts)
         ∙ getD-map bare (take (2 * n - 3) tt′) i noSide noSide (omega (arith, ls, lt))
+
     piece-at : (q : ℕ) → q + 5 < 2 * n → pieceAt qs q ≡ pieceAt ps q
     piece-at q r = sym (getD-take (2 * n - 5) qs q whole (omega arith)) ∙ ap (λ xs. getD xs q whole) (sym pieces) ∙ getD-take (2 * n - 5) ps q whole (omega arith)
+
     moved : (i q : ℕ) → LeafMarked n (span (frontEnds n ss)) qs i q → LeafMarked n (span (frontEnds n ss)) ps i q
     moved i q k =
         record {
@@ -60,6 +70,7 @@ same-records n ss tt ss′ tt′ ps qs fl long same sk tk a b =
           uncut = subst (Uncut n (span (frontEnds n ss))) (piece-at q (k .in-range)) (k .uncut);
           holds-it = subst (λ (x : Piece). Holds (span (frontEnds n ss)) x (k .triangle)) (piece-at q (k .in-range)) (k .holds-it);
         }
+
     leaf-at : (i : ℕ) → i < length (take (2 * n - 3) ss′) → getD (take (2 * n - 3) ss′) i noSide .leaf ≡ getD (take (2 * n - 3) tt′) i noSide .leaf
     leaf-at i l =
         let r : i + 3 < 2 * n = omega (arith, ls) in

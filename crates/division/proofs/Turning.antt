@@ -71,23 +71,25 @@ turned n e fl p ps ts (suc j) r ps′ ts′ k′ t missing room wide u =
     let few = few-wait n e fl ts (suc j) p (u .line) in
     ⊎-elim
     (λ two.
-      let d = t .cut j refl room (omega arith) two in
-      let F = firstOf (span e) p P in
-      let S = secondOf (span e) p P in
-      (d .answer,
-       omega (arith, ap length (d .list), length-set (set ts j S) (suc j) F, length-set ts j S),
-       subst (λ qs. UnderWay n e (p + 1) qs ts′ k′) (sym (d .records))
-       (subst (λ us. UnderWay n e (p + 1) (set ps p (cutRecord e p P)) us k′) (sym (d .list))
-        (subst (UnderWay n e (p + 1) (set ps p (cutRecord e p P)) (set (set ts j S) (suc j) F)) (sym (d .waiting))
-         (turn-node n e fl p ps ts j P refl room u two (omega arith))))))
+    let d = t .cut j refl room (omega arith) two in
+    let F = firstOf (span e) p P in
+    let S = secondOf (span e) p P in (
+      d .answer,
+      omega (arith, ap length (d .list), length-set (set ts j S) (suc j) F, length-set ts j S),
+      subst (λ qs. UnderWay n e (p + 1) qs ts′ k′) (sym (d .records))
+          (subst (λ us. UnderWay n e (p + 1) (set ps p (cutRecord e p P)) us k′) (sym (d .list))
+          (subst (UnderWay n e (p + 1) (set ps p (cutRecord e p P)) (set (set ts j S) (suc j) F)) (sym (d .waiting))
+          (turn-node n e fl p ps ts j P refl room u two (omega arith)))),
+    ))
     (λ one.
-      let d = t .uncut j refl room one in
-      (d .answer,
-       omega (arith, ap length (d .list)),
-       subst (λ qs. UnderWay n e (p + 1) qs ts′ k′) (sym (d .records))
-       (subst (λ us. UnderWay n e (p + 1) (set ps p (single e P)) us k′) (sym (d .list))
-        (subst (UnderWay n e (p + 1) (set ps p (single e P)) ts) (sym (d .waiting))
-         (turn-leaf n e fl p ps ts j P refl room u one)))))
+    let d = t .uncut j refl room one in (
+      d .answer,
+      omega (arith, ap length (d .list)),
+      subst (λ qs. UnderWay n e (p + 1) qs ts′ k′) (sym (d .records))
+          (subst (λ us. UnderWay n e (p + 1) (set ps p (single e P)) us k′) (sym (d .list))
+          (subst (UnderWay n e (p + 1) (set ps p (single e P)) ts) (sym (d .waiting))
+          (turn-leaf n e fl p ps ts j P refl room u one))),
+    ))
     (cases-lt 1 (size (span e) P))
 
 -- a turn at p leaves what lies past it

@@ -10,6 +10,7 @@ use crate::loops::cut_pieces;
 use crate::marks::mark_leaves;
 use records::Piece;
 use ring::Side;
+
 mod loops;
 mod marks;
 
@@ -42,7 +43,12 @@ fn divide_front(sides: &mut [Side], count: u16, pieces: &mut [Piece], todo: &mut
 
 // Divides the filled ring of n terminals whose 2n - 3 sides lie in preorder at the front of `sides`: writes the 2n - 5 piece
 // records and the leaf of each side. The to-do area is free afterwards.
-pub fn divide(sides: &mut [Side], n: usize, pieces: &mut [Piece], todo: &mut [Piece]) -> Result<(), Undivided>
+pub fn divide(
+    sides: &mut [Side],
+    n: usize,
+    pieces: &mut [Piece],
+    todo: &mut [Piece],
+) -> Result<(), Undivided>
     ensures { λ r. ⌜ Outcome n (now (sides .entry)) (now (pieces .entry)) (now (todo .entry)) r (now (sides .exit)) (now (pieces .exit)) ⌝ }
 {
     if n < 3 || n > 4096 {

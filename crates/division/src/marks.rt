@@ -2,7 +2,10 @@
 ghost use mathlib.Core.Path.{_≡_};
 ghost use Rattle.pieces.specs.Holding.{pieceAt};
 ghost use Rattle.pieces.specs.Marks.{markAll, markOne, markPiece, markTriangle, markUnit};
-use cutting::{left_of, length_of, right_of, whole};
+use cutting::left_of;
+use cutting::length_of;
+use cutting::right_of;
+use cutting::whole;
 use records::Piece;
 use ring::Side;
 

@@ -24,12 +24,12 @@ pub climbs-on : (ps : List Piece) (p q : ℕ) → q ≡ pieceAt ps p .parent →
 climbs-on ps p q is inside lower =
     ap Some is
     ∙ sym (cond-true (climbs ps p) (Some (pieceAt ps p .parent)) None
-      (and-from (ltb p (length ps)) (ltb (pieceAt ps p .parent) p) (lt-ltb p (length ps) inside) (lt-ltb (pieceAt ps p .parent) p (omega arith))))
+    (and-from (ltb p (length ps)) (ltb (pieceAt ps p .parent) p) (lt-ltb p (length ps) inside) (lt-ltb (pieceAt ps p .parent) p (omega arith))))
 
 pub climbs-not : (ps : List Piece) (p q : ℕ) → q ≡ pieceAt ps p .parent → p ≤ q → None ≡ cond (climbs ps p) (Some (pieceAt ps p .parent)) None
 climbs-not ps p q is no-lower =
     sym (cond-false (climbs ps p) (Some (pieceAt ps p .parent)) None
-      (and-right (ltb p (length ps)) (ltb (pieceAt ps p .parent) p) (le-ltb (pieceAt ps p .parent) p (omega arith))))
+    (and-right (ltb p (length ps)) (ltb (pieceAt ps p .parent) p) (le-ltb (pieceAt ps p .parent) p (omega arith))))
 
 pub some-climbs : (b : Bool) (x y : ℕ) → Some x ≡ cond b (Some y) None → (b ≡ true) × (x ≡ y)
 some-climbs true x y e = (refl, cc)

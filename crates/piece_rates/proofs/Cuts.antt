@@ -30,10 +30,10 @@ module _ (n : ℕ) (e : Ends) (fl : Filled n e) where
       let ss = fl .rising s rs in
       ⊎-elim (λ k. absurd (out k))
       (λ o. ⊎-elim
-        (λ k. let b = ends-between n e fl i s (in-root n e fl i ri) k in (inl (b .0), inr (b .1)))
-        (λ q. ⊎-elim
-          (λ k. let b = ends-before n e fl s i rs ri k in (inr b, inr (omega arith)))
-          (λ k. let b = ends-before n e fl i s ri rs k in (inl (omega arith), inl b)) q) o)
+      (λ k. let b = ends-between n e fl i s (in-root n e fl i ri) k in (inl (b .0), inr (b .1)))
+      (λ q. ⊎-elim
+      (λ k. let b = ends-before n e fl s i rs ri k in (inr b, inr (omega arith)))
+      (λ k. let b = ends-before n e fl i s ri rs k in (inl (omega arith), inl b)) q) o)
       (lie n (span e) (preorder n e fl) s i)
 
   holds-is : (P : Piece) (b : ℕ) → Holds (span e) P b → Held (span e) (P .top) (listed (P .holes)) b
@@ -81,8 +81,8 @@ module _ (n : ℕ) (e : Ends) (fl : Filled n e) where
         let fs = in-root n e fl (P .seam) seam-range in
         let fb = inside-fits n (span e) pre (P .seam) b fs k in
         let into : Inside (span e) (P .seam) i =
-              ⊎-elim (λ q. subst (Inside (span e) (P .seam)) (sym q) k)
-              (λ q. inside-trans n (span e) pre (P .seam) b i fs k (child-inside n (span e) pre b i fb q .0)) own in
+        ⊎-elim (λ q. subst (Inside (span e) (P .seam)) (sym q) k)
+        (λ q. inside-trans n (span e) pre (P .seam) b i fs k (child-inside n (span e) pre b i fb q .0)) own in
         ends-between n e fl (P .seam) i fs into
 
     -- a side of a triangle that the second part holds is the seam or does not lie below it
@@ -91,16 +91,16 @@ module _ (n : ℕ) (e : Ends) (fl : Filled n e) where
         let pre = preorder n e fl in
         let k = holds-is B b h in
         let hole : Among (P .seam) (listed (B .holes)) =
-              ⊎-elim (λ q. absurd (omega (arith, q .0, c .second-top, seam-below))) (λ q. q) (bounds-cases (B .top) (listed (B .holes)) (P .seam) (c .seam-bounds-second)) in
+        ⊎-elim (λ q. absurd (omega (arith, q .0, c .second-top, seam-below))) (λ q. q) (bounds-cases (B .top) (listed (B .holes)) (P .seam) (c .seam-bounds-second)) in
         let fb = inside-fits n (span e) pre (B .top) b (in-root n e fl (B .top) (d .stands (P .second) (c .in-range) .top-in-range)) (k .1) in
         let far : (Inside (span e) (P .seam) b → ⊥) = k .2 (P .seam) hole in
         ⊎-elim
         (λ q. outside (P .seam) i seam-range ri (λ into. far (subst (Inside (span e) (P .seam)) q into)))
         (λ q. ⊎-elim
-          (λ z. subst (λ w. Outside (e .low (P .seam)) (e .high (P .seam)) (e .low w) × Outside (e .low (P .seam)) (e .high (P .seam)) (e .high w)) z
-          (inl (omega arith), inr (omega arith)))
-          (λ z. outside (P .seam) i seam-range ri z)
-          (seam-or-not b i fb q far))
+        (λ z. subst (λ w. Outside (e .low (P .seam)) (e .high (P .seam)) (e .low w) × Outside (e .low (P .seam)) (e .high (P .seam)) (e .high w)) z
+        (inl (omega arith), inr (omega arith)))
+        (λ z. outside (P .seam) i seam-range ri z)
+        (seam-or-not b i fb q far))
         own
       where
         seam-or-not : (b i : ℕ) → Fit n (span e) b → Child (span e) b i → (Inside (span e) (P .seam) b → ⊥) → (P .seam ≡ i) ⊎ (Inside (span e) (P .seam) i → ⊥)

@@ -4,3 +4,5 @@ pub mod Parents
 pub mod Sizes
 pub mod Cuts
 pub mod Triangles
+pub mod Leaves
+pub mod Changes

@@ -24,10 +24,10 @@ use Rattle.piece_rates.proofs.Holding.{holds-lane-found, holds-lane-tested, am
 
 module _ {M : Type 0} (K : Kind M) (X : Laws K) where
   -- a lane that a piece holds is the book's; one that stands in a piece's lanes is held
-  lane-held : (n : ℕ) (e : Ends) (P : Piece) (m : LaneMap M) (u v : ℕ) → HoldsLane n e P u v → piece-lanes K n e P m u v ≡ m u v
+  pub lane-held : (n : ℕ) (e : Ends) (P : Piece) (m : LaneMap M) (u v : ℕ) → HoldsLane n e P u v → piece-lanes K n e P m u v ≡ m u v
   lane-held n e P m u v h = cond-true (holds-lane n e P u v) (m u v) (K .none) (holds-lane-tested n e P u v h)
 
-  standing-held : (n : ℕ) (e : Ends) (P : Piece) (m : LaneMap M) (u v : ℕ) → Standing K (piece-lanes K n e P m) u v → HoldsLane n e P u v
+  pub standing-held : (n : ℕ) (e : Ends) (P : Piece) (m : LaneMap M) (u v : ℕ) → Standing K (piece-lanes K n e P m) u v → HoldsLane n e P u v
   standing-held n e P m u v s =
       ⊎-elim (holds-lane-found n e P u v) (λ z. absurd (s (cond-false (holds-lane n e P u v) (m u v) (K .none) z)))
       (cases-bool (holds-lane n e P u v))

@@ -48,7 +48,7 @@ module _ {M : Type 0} (K : Kind M) (X : Laws K) where
   piece-no-earning n e P m ne = fewer-lanes-no-better K X (piece-lanes K n e P m) m (piece-fewer n e P m) .still-no-earning ne
 
   module _ (n : ℕ) (e : Ends) (m : LaneMap M) (P : Piece) (h : PlanLanes K n m) where
-    lane-size : (u v : ℕ) → K .size (piece-lanes K n e P m u v) ≤ 1000000000
+    pub lane-size : (u v : ℕ) → K .size (piece-lanes K n e P m u v) ≤ 1000000000
     lane-size u v =
         ⊎-elim (λ z. omega (arith, ap (K .size) z, X .none-size))
         (λ s.

@@ -5,3 +5,5 @@ pub mod Climbing
 pub mod Parents
 pub mod Division
 pub mod Triangles
+pub mod Leaves
+pub mod Changes

@@ -17,7 +17,7 @@ among-kept f [] x h = absurd h
 among-kept f (y ∷ ys) x h =
     ⊎-elim
     (λ t. ⊎-elim (λ e. (inl e, subst (λ z. f z ≡ true) (sym e) t)) (λ m. let r = among-kept f ys x m in (inr (r .0), r .1))
-      (subst (λ zs. Among x zs) (cond-true (f y) (y ∷ kept-by f ys) (kept-by f ys) t) h))
+    (subst (λ zs. Among x zs) (cond-true (f y) (y ∷ kept-by f ys) (kept-by f ys) t) h))
     (λ t. let r = among-kept f ys x (subst (λ zs. Among x zs) (cond-false (f y) (y ∷ kept-by f ys) (kept-by f ys) t) h) in (inr (r .0), r .1))
     (cases-bool (f y))
 
@@ -50,9 +50,9 @@ sum-kept f w (y ∷ ys) =
     sumBy-cons (λ x. cond (f x) (w x) 0) y ys
     ∙ ap (λ m. cond (f y) (w y) 0 + m) (sum-kept f w ys)
     ∙ ⊎-elim
-      (λ t. omega (arith, cond-true (f y) (w y) 0 t, ap (sumBy w) (cond-true (f y) (y ∷ kept-by f ys) (kept-by f ys) t), sumBy-cons w y (kept-by f ys)))
-      (λ t. omega (arith, cond-false (f y) (w y) 0 t, ap (sumBy w) (cond-false (f y) (y ∷ kept-by f ys) (kept-by f ys) t)))
-      (cases-bool (f y))
+    (λ t. omega (arith, cond-true (f y) (w y) 0 t, ap (sumBy w) (cond-true (f y) (y ∷ kept-by f ys) (kept-by f ys) t), sumBy-cons w y (kept-by f ys)))
+    (λ t. omega (arith, cond-false (f y) (w y) 0 t, ap (sumBy w) (cond-false (f y) (y ∷ kept-by f ys) (kept-by f ys) t)))
+    (cases-bool (f y))
 
 pub sum-ones : (xs : List ℕ) → sumBy (λ _. 1) xs ≡ length xs
 sum-ones [] = refl

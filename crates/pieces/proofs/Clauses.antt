@@ -74,10 +74,15 @@ module _ (n : ℕ) (len : ℕ → ℕ) (pre : Preorder n len) (top : ℕ) (hs : 
         let ys = kept-by (behind len v) hs in
         ⊎-elim
         (λ t. let e = cond-true (eqb top 0) os (top ∷ os) t in
-              omega (arith, ap (λ zs. length (others v zs)) e, ap length e, bounds-length top os, others-once v xs ys (apart-kept (λ h. ltb h v)) (apart-kept (behind len v))))
+        omega (arith, ap (λ zs. length (others v zs)) e, ap length e, bounds-length top os, others-once v xs ys (apart-kept (λ h. ltb h v)) (apart-kept (behind len v))))
         (λ t. let e = cond-false (eqb top 0) os (top ∷ os) t in
-              omega (arith, ap (λ zs. length (others v zs)) e, ap length e, bounds-length top os,
-                others-once v (top ∷ xs) ys (λ x m z. ⊎-elim (λ q. omega (arith, c .below)) (λ q. apart-kept (λ h. ltb h v) x q z) m) (apart-kept (behind len v))))
+        omega (
+          arith,
+          ap (λ zs. length (others v zs)) e,
+          ap length e,
+          bounds-length top os,
+          others-once v (top ∷ xs) ys (λ x m z. ⊎-elim (λ q. omega (arith, c .below)) (λ q. apart-kept (λ h. ltb h v) x q z) m) (apart-kept (behind len v)),
+        ))
         (cases-bool (eqb top 0))
 
     inner-side : (D : Piece) (level par : ℕ) → Shown D top hs level par → InnerSide len D v
@@ -129,9 +134,10 @@ module _ (n : ℕ) (len : ℕ → ℕ) (pre : Preorder n len) (top : ℕ) (hs : 
           };
           sizes = omega arith;
           four-seams = λ q.
-              let q4 : seams top hs ≡ 4 = sym count ∙ sym (ap length bd) ∙ q in
-              (subst (λ z. length (others z (bounds A)) ≡ 2) (sym seam) (ap (λ xs. length (others v xs)) ba ∙ omega (arith, old-inner, li .four-seams q4)),
-               subst (λ z. length (others z (bounds B)) ≡ 2) (sym seam) (ap (λ xs. length (others v xs)) bb ∙ omega (arith, old-outer, lo .four-seams q4)));
+              let q4 : seams top hs ≡ 4 = sym count ∙ sym (ap length bd) ∙ q in (
+                subst (λ z. length (others z (bounds A)) ≡ 2) (sym seam) (ap (λ xs. length (others v xs)) ba ∙ omega (arith, old-inner, li .four-seams q4)),
+                subst (λ z. length (others z (bounds B)) ≡ 2) (sym seam) (ap (λ xs. length (others v xs)) bb ∙ omega (arith, old-outer, lo .four-seams q4)),
+              );
           fewer-seams = λ q.
               let q3 : seams top hs ≤ 3 = subst (λ m. m ≤ 3) (ap length bd ∙ count) q in
               (omega (arith, li .fewer-seams q3), omega (arith, lo .fewer-seams q3));
@@ -158,8 +164,8 @@ stands-by n e fl ps p D k pin rims cut =
       seams-only = λ x m.
           let r = k .cut-above x m in
           let t : (b : ℕ) × (Held (span e) top hs b × SideOf (span e) b x) =
-                ⊎-elim (λ q. (top, ((b, (omega arith, omega arith), top-clear n (span e) pre top hs s), inl (q .0))))
-                (λ q. let z = k .hole-sides x q in (z .0, (z .1 .0, inr (z .1 .1)))) (bounds-cases top hs x m) in
+          ⊎-elim (λ q. (top, ((b, (omega arith, omega arith), top-clear n (span e) pre top hs s), inl (q .0))))
+          (λ q. let z = k .hole-sides x q in (z .0, (z .1 .0, inr (z .1 .1)))) (bounds-cases top hs x m) in
           record {
             cut-piece = r .0;
             above = r .1 .0;

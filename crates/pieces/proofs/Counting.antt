@@ -94,54 +94,54 @@ module _ (n : ℕ) (len : ℕ → ℕ) (pre : Preorder n len) where
   bases (suc g) i l fit rises =
       ⊎-elim
       (λ u.
-        let none = count-none (baseIn len i) (2 * n - 3)
-              (λ b. ⊎-elim (λ t. let h = base-is i b t in let e : i ≡ b = omega arith in absurd (omega (arith, ap len e))) (λ t. t) (cases-bool (baseIn len i b))) in
-        omega arith)
+      let none = count-none (baseIn len i) (2 * n - 3)
+      (λ b. ⊎-elim (λ t. let h = base-is i b t in let e : i ≡ b = omega arith in absurd (omega (arith, ap len e))) (λ t. t) (cases-bool (baseIn len i b))) in
+      omega arith)
       (λ base.
-        let s = halves n len pre i fit base in
-        let r = rightOf len i in
-        let fl = left-fits n len pre i fit base in
-        let fr = right-fits n len pre i fit base in
-        let both = λ (b : ℕ). baseIn len (i + 1) b || baseIn len r b in
-        let a = count-add (baseIn len i) (λ b. eqb b i) both (2 * n - 3)
-              (λ b. bits-add (baseIn len i b) (eqb b i) (both b)
-                (λ t. let h = base-is i b t in
-                      ⊎-elim (λ e. inl (eq-eqb b i (sym e)))
-                      (λ ne. ⊎-elim
-                        (λ k. inr (or-left (baseIn len (i + 1) b) (baseIn len r b) (is-base (i + 1) b (h .0) (omega arith, omega arith))))
-                        (λ k. inr (or-right (baseIn len (i + 1) b) (baseIn len r b) (is-base r b (h .0) (omega arith, omega arith))))
-                        (cases-lt b r))
-                      (cases-eq i b))
-                (λ t. let e = eqb-true b i t in is-base i b (subst (λ k. 2 ≤ len k) (sym e) base) (omega arith, omega arith))
-                (λ t. ⊎-elim
-                  (λ q. let h = base-is (i + 1) b q in is-base i b (h .0) (omega arith, omega arith))
-                  (λ q. let h = base-is r b q in is-base i b (h .0) (omega arith, omega arith))
-                  (or-cases (baseIn len (i + 1) b) (baseIn len r b) t))
-                (λ t q. let e = eqb-true b i t in ⊎-elim
-                  (λ k. let h = base-is (i + 1) b k in omega arith)
-                  (λ k. let h = base-is r b k in omega arith)
-                  (or-cases (baseIn len (i + 1) b) (baseIn len r b) q))) in
-        let c = count-add both (baseIn len (i + 1)) (baseIn len r) (2 * n - 3)
-              (λ b. bits-add (both b) (baseIn len (i + 1) b) (baseIn len r b)
-                (λ t. or-cases (baseIn len (i + 1) b) (baseIn len r b) t)
-                (λ t. or-left (baseIn len (i + 1) b) (baseIn len r b) t)
-                (λ t. or-right (baseIn len (i + 1) b) (baseIn len r b) t)
-                (λ t q. let h = base-is (i + 1) b t in let k = base-is r b q in omega arith)) in
-        let one = count-one i (2 * n - 3) (omega arith) in
-        let x = bases g (i + 1) (omega arith) fl (s .0) in
-        let y = bases g r (omega arith) fr (s .1) in
-        omega arith)
+      let s = halves n len pre i fit base in
+      let r = rightOf len i in
+      let fl = left-fits n len pre i fit base in
+      let fr = right-fits n len pre i fit base in
+      let both = λ (b : ℕ). baseIn len (i + 1) b || baseIn len r b in
+      let a = count-add (baseIn len i) (λ b. eqb b i) both (2 * n - 3)
+      (λ b. bits-add (baseIn len i b) (eqb b i) (both b)
+      (λ t. let h = base-is i b t in
+      ⊎-elim (λ e. inl (eq-eqb b i (sym e)))
+      (λ ne. ⊎-elim
+      (λ k. inr (or-left (baseIn len (i + 1) b) (baseIn len r b) (is-base (i + 1) b (h .0) (omega arith, omega arith))))
+      (λ k. inr (or-right (baseIn len (i + 1) b) (baseIn len r b) (is-base r b (h .0) (omega arith, omega arith))))
+      (cases-lt b r))
+      (cases-eq i b))
+      (λ t. let e = eqb-true b i t in is-base i b (subst (λ k. 2 ≤ len k) (sym e) base) (omega arith, omega arith))
+      (λ t. ⊎-elim
+      (λ q. let h = base-is (i + 1) b q in is-base i b (h .0) (omega arith, omega arith))
+      (λ q. let h = base-is r b q in is-base i b (h .0) (omega arith, omega arith))
+      (or-cases (baseIn len (i + 1) b) (baseIn len r b) t))
+      (λ t q. let e = eqb-true b i t in ⊎-elim
+      (λ k. let h = base-is (i + 1) b k in omega arith)
+      (λ k. let h = base-is r b k in omega arith)
+      (or-cases (baseIn len (i + 1) b) (baseIn len r b) q))) in
+      let c = count-add both (baseIn len (i + 1)) (baseIn len r) (2 * n - 3)
+      (λ b. bits-add (both b) (baseIn len (i + 1) b) (baseIn len r b)
+      (λ t. or-cases (baseIn len (i + 1) b) (baseIn len r b) t)
+      (λ t. or-left (baseIn len (i + 1) b) (baseIn len r b) t)
+      (λ t. or-right (baseIn len (i + 1) b) (baseIn len r b) t)
+      (λ t q. let h = base-is (i + 1) b t in let k = base-is r b q in omega arith)) in
+      let one = count-one i (2 * n - 3) (omega arith) in
+      let x = bases g (i + 1) (omega arith) fl (s .0) in
+      let y = bases g r (omega arith) fr (s .1) in
+      omega arith)
       (cases-lt (len i) 2)
 
   -- the holes take their own bases away
   held-count : (top : ℕ) → Fit n len top → 1 ≤ len top → (a : ℕ) (hs : List ℕ) → top ≤ a → Row len (a + 1) hs (top + 2 * len top) → count (heldBy len top hs) (2 * n - 3) + sumBy (inner len) hs + 1 ≡ len top
   held-count top fit rises a [] l r =
       let e = count-add (heldBy len top []) (baseIn len top) (λ b. false) (2 * n - 3)
-            (λ b. bits-add (heldBy len top [] b) (baseIn len top b) false
-              (λ t. let h = held-is len top [] b t in inl (is-base top b (h .0) (h .1)))
-              (λ t. let h = base-is top b t in is-held len top [] b (h .0, h .1, λ k m i. absurd m))
-              (λ t. absurd (true≢false (sym t)))
-              (λ t q. true≢false (sym q))) in
+      (λ b. bits-add (heldBy len top [] b) (baseIn len top b) false
+      (λ t. let h = held-is len top [] b t in inl (is-base top b (h .0) (h .1)))
+      (λ t. let h = base-is top b t in is-held len top [] b (h .0, h .1, λ k m i. absurd m))
+      (λ t. absurd (true≢false (sym t)))
+      (λ t q. true≢false (sym q))) in
       omega (arith, bases (len top) top (omega arith) fit rises, count-none (λ b. false) (2 * n - 3) (λ b. refl))
   held-count top fit rises a (h ∷ hs) l r =
       let hin : Inside len top h = (omega arith, omega (arith, row-ends len (h + 2 * len h) hs (top + 2 * len top) (r .2))) in
@@ -150,15 +150,15 @@ module _ (n : ℕ) (len : ℕ → ℕ) (pre : Preorder n len) where
       let tail : Row len (h + 2 * len h - 1 + 1) hs (top + 2 * len top) = subst (λ m. Row len m hs (top + 2 * len top)) (omega (arith, r .1)) (r .2) in
       let rest = held-count top fit rises (h + 2 * len h - 1) hs (omega (arith, r .1)) tail in
       let e = count-add (heldBy len top hs) (heldBy len top (h ∷ hs)) (baseIn len h) (2 * n - 3)
-            (λ b. bits-add (heldBy len top hs b) (heldBy len top (h ∷ hs) b) (baseIn len h b)
-              (λ t. let p = held-is len top hs b t in
-                    ⊎-elim (λ w. inr (is-base h b (p .0) (within-inside len h b w)))
-                    (λ w. inl (is-held len top (h ∷ hs) b (p .0, p .1, λ x m i. ⊎-elim (λ q. within-outside len h b w (subst (λ y. Inside len y b) q i)) (λ q. p .2 x q i) m)))
-                    (cases-bool (within len h b)))
-              (λ t. let p = held-is len top (h ∷ hs) b t in is-held len top hs b (p .0, p .1, λ x m i. p .2 x (inr m) i))
-              (λ t. let p = base-is h b t in
-                    is-held len top hs b (p .0, inside-trans n len pre top h b fit hin (p .1), λ x m i. let q = row-at len (h + 2 * len h) hs (top + 2 * len top) x (r .2) m in omega (arith, p .1 .1, i .0, q .0)))
-              (λ t q. held-is len top (h ∷ hs) b t .2 h (inl refl) (base-is h b q .1))) in
+      (λ b. bits-add (heldBy len top hs b) (heldBy len top (h ∷ hs) b) (baseIn len h b)
+      (λ t. let p = held-is len top hs b t in
+      ⊎-elim (λ w. inr (is-base h b (p .0) (within-inside len h b w)))
+      (λ w. inl (is-held len top (h ∷ hs) b (p .0, p .1, λ x m i. ⊎-elim (λ q. within-outside len h b w (subst (λ y. Inside len y b) q i)) (λ q. p .2 x q i) m)))
+      (cases-bool (within len h b)))
+      (λ t. let p = held-is len top (h ∷ hs) b t in is-held len top hs b (p .0, p .1, λ x m i. p .2 x (inr m) i))
+      (λ t. let p = base-is h b t in
+      is-held len top hs b (p .0, inside-trans n len pre top h b fit hin (p .1), λ x m i. let q = row-at len (h + 2 * len h) hs (top + 2 * len top) x (r .2) m in omega (arith, p .1 .1, i .0, q .0)))
+      (λ t q. held-is len top (h ∷ hs) b t .2 h (inl refl) (base-is h b q .1))) in
       omega (arith, sumBy-cons (inner len) h hs)
 
   pub held-triangles : (top : ℕ) (hs : List ℕ) → Sound n len top hs → count (heldBy len top hs) (2 * n - 3) ≡ triangles len hs top

@@ -17,7 +17,7 @@ abbrev pub Deep : ℕ → ℕ → ℕ → Type 0
 Deep level t seams =
     (k : ℕ)
     × (((level ≡ 2 * k) × (t ≤ limit k))
-      ⊎ ((level ≡ 2 * k + 1) × (k < 20) × ((t ≤ limit (k + 1)) ⊎ ((t ≤ limit k) × (seams ≤ 3)))))
+    ⊎ ((level ≡ 2 * k + 1) × (k < 20) × ((t ≤ limit (k + 1)) ⊎ ((t ≤ limit k) × (seams ≤ 3)))))
 
 pub deep-whole : (t seams : ℕ) → t ≤ 4094 → Deep 0 t seams
 deep-whole t seams l = (0, inl (refl, omega (arith, row-of-limits .first)))

@@ -29,7 +29,6 @@ pub record Found (len : ℕ → ℕ) (top : ℕ) (w : ℕ → ℕ) (c most : ℕ
 module _ (n : ℕ) (len : ℕ → ℕ) (pre : Preorder n len) (top : ℕ) (fit : Fit n len top) (w : ℕ → ℕ) (c most : ℕ) (Clear : ℕ → Type 0)
     (share : (u : ℕ) → Inside len top u → Clear u → 2 ≤ len u → w u ≤ c + (w (u + 1) + w (rightOf len u)))
     (good : (u x : ℕ) → Inside len top u → Clear u → Child len u x → most + 1 ≤ c + 2 * w x → Clear x × (2 ≤ len x)) where
-
   -- the heavier child has at least half of what the children have
   half : (u : ℕ) → Inside len top u → 2 ≤ len u → Child len u (heavier len w u) × (w (u + 1) + w (rightOf len u) ≤ 2 * w (heavier len w u))
   half u into base =
@@ -49,18 +48,18 @@ module _ (n : ℕ) (len : ℕ → ℕ) (pre : Preorder n len) (top : ℕ) (fit :
   descends (suc f) u b into clear base stop =
       cond-both (ltb most (w u)) (descend len w most f (heavier len w u)) u (Found len top w c most Clear)
       (λ t.
-        let above = ltb-true most (w u) t in
-        let x = heavier len w u in
-        let h = half u into base in
-        let sh = share u into clear base in
-        let fu = inside-fits n len pre top u fit into in
-        let ci = child-inside n len pre u x fu (h .0) in
-        let heavy : most + 1 ≤ c + 2 * w x = omega (arith, h .1) in
-        let g = good u x into clear (h .0) heavy in
-        let low = nested n len pre top u fit into in
-        let xin : Inside len top x = (omega (arith, ci .2), omega (arith, ci .1, g .1)) in
-        let s = halves n len pre u fu base in
-        let shorter : len x ≤ f = ⊎-elim (λ e. omega (arith, ap len e)) (λ e. omega (arith, ap len e)) (h .0 .which) in
-        descends f x shorter xin (g .0) (g .1)
-        (λ l. record { inside = xin; below = omega (arith, ci .2); clear = g .0; base = g .1; light = l; heavy = heavy }))
+      let above = ltb-true most (w u) t in
+      let x = heavier len w u in
+      let h = half u into base in
+      let sh = share u into clear base in
+      let fu = inside-fits n len pre top u fit into in
+      let ci = child-inside n len pre u x fu (h .0) in
+      let heavy : most + 1 ≤ c + 2 * w x = omega (arith, h .1) in
+      let g = good u x into clear (h .0) heavy in
+      let low = nested n len pre top u fit into in
+      let xin : Inside len top x = (omega (arith, ci .2), omega (arith, ci .1, g .1)) in
+      let s = halves n len pre u fu base in
+      let shorter : len x ≤ f = ⊎-elim (λ e. omega (arith, ap len e)) (λ e. omega (arith, ap len e)) (h .0 .which) in
+      descends f x shorter xin (g .0) (g .1)
+      (λ l. record { inside = xin; below = omega (arith, ci .2); clear = g .0; base = g .1; light = l; heavy = heavy }))
       (λ t. stop (ltb-false most (w u) t))

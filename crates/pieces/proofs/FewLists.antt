@@ -53,16 +53,17 @@ chosen-list t f [] p room = (sym (append-nil (listed f)), p)
 chosen-list t f (x ∷ xs) p room =
     ⊎-elim
     (λ e.
-      let ks = cond-true (t x) (x ∷ kept-by t xs) (kept-by t xs) e in
-      let r : f .count < 8 = omega (arith, ap length ks) in
-      let c = added-count f x p r in
-      let h = chosen-list t (added f x) xs (added-pinned f x p r) (omega (arith, ap length ks)) in
-      let s = cond-true (t x) (added f x) f e in
-      (ap (λ g. listed (chosen t g xs)) s ∙ h .0 ∙ ap (λ ys. ys ++ kept-by t xs) (added-list f x p r) ∙ append-assoc (listed f) (x ∷ []) (kept-by t xs) ∙ ap (λ ys. listed f ++ ys) (sym ks),
-       subst (λ g. Pinned (chosen t g xs)) (sym s) (h .1)))
+    let ks = cond-true (t x) (x ∷ kept-by t xs) (kept-by t xs) e in
+    let r : f .count < 8 = omega (arith, ap length ks) in
+    let c = added-count f x p r in
+    let h = chosen-list t (added f x) xs (added-pinned f x p r) (omega (arith, ap length ks)) in
+    let s = cond-true (t x) (added f x) f e in (
+      ap (λ g. listed (chosen t g xs)) s ∙ h .0 ∙ ap (λ ys. ys ++ kept-by t xs) (added-list f x p r) ∙ append-assoc (listed f) (x ∷ []) (kept-by t xs) ∙ ap (λ ys. listed f ++ ys) (sym ks),
+      subst (λ g. Pinned (chosen t g xs)) (sym s) (h .1),
+    ))
     (λ e.
-      let ks = cond-false (t x) (x ∷ kept-by t xs) (kept-by t xs) e in
-      let h = chosen-list t f xs p (omega (arith, ap length ks)) in
-      let s = cond-false (t x) (added f x) f e in
-      (ap (λ g. listed (chosen t g xs)) s ∙ h .0 ∙ ap (λ ys. listed f ++ ys) (sym ks), subst (λ g. Pinned (chosen t g xs)) (sym s) (h .1)))
+    let ks = cond-false (t x) (x ∷ kept-by t xs) (kept-by t xs) e in
+    let h = chosen-list t f xs p (omega (arith, ap length ks)) in
+    let s = cond-false (t x) (added f x) f e in
+    (ap (λ g. listed (chosen t g xs)) s ∙ h .0 ∙ ap (λ ys. listed f ++ ys) (sym ks), subst (λ g. Pinned (chosen t g xs)) (sym s) (h .1)))
     (cases-bool (t x))

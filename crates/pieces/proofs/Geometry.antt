@@ -33,10 +33,10 @@ module _ (n : ℕ) (e : Ends) (fl : Filled n e) where
       let ss = fl .rising s rs in
       ⊎-elim (λ k. absurd (out k))
       (λ o. ⊎-elim
-        (λ k. let b = ends-between n e fl i s (in-root i ri) k in (inl (b .0), inr (b .1)))
-        (λ q. ⊎-elim
-          (λ k. let b = ends-before n e fl s i rs ri k in (inr b, inr (omega arith)))
-          (λ k. let b = ends-before n e fl i s ri rs k in (inl (omega arith), inl b)) q) o)
+      (λ k. let b = ends-between n e fl i s (in-root i ri) k in (inl (b .0), inr (b .1)))
+      (λ q. ⊎-elim
+      (λ k. let b = ends-before n e fl s i rs ri k in (inr b, inr (omega arith)))
+      (λ k. let b = ends-before n e fl i s ri rs k in (inl (omega arith), inl b)) q) o)
       (lie n (span e) (preorder n e fl) s i)
 
   holds-is : (P : Piece) (b : ℕ) → Holds (span e) P b → Held (span e) (P .top) (listed (P .holes)) b
@@ -65,8 +65,8 @@ module _ (n : ℕ) (e : Ends) (fl : Filled n e) where
         let fs = in-root (P .seam) seam-range in
         let fb = inside-fits n (span e) pre (P .seam) b fs k in
         let into : Inside (span e) (P .seam) i =
-              ⊎-elim (λ q. subst (Inside (span e) (P .seam)) (q .1) k)
-              (λ q. inside-trans n (span e) pre (P .seam) b i fs k (child-inside n (span e) pre b i fb (q .1) .0)) own in
+        ⊎-elim (λ q. subst (Inside (span e) (P .seam)) (q .1) k)
+        (λ q. inside-trans n (span e) pre (P .seam) b i fs k (child-inside n (span e) pre b i fb (q .1) .0)) own in
         ends-between n e fl (P .seam) i fs into
 
     outer : (i b : ℕ) → i + 3 < 2 * n → Belongs (span e) i b → Holds (span e) B b → (Inside (span e) (P .seam) i → ⊥)
@@ -75,7 +75,7 @@ module _ (n : ℕ) (e : Ends) (fl : Filled n e) where
         let k = holds-is B b h in
         let base = holds-is P (P .seam) (c .inner .on-it) .0 in
         let hole : Among (P .seam) (listed (B .holes)) =
-              ⊎-elim (λ q. absurd (omega (arith, q .0, c .second-top, seam-below))) (λ q. q) (bounds-cases (B .top) (listed (B .holes)) (P .seam) (c .seam-bounds-second)) in
+        ⊎-elim (λ q. absurd (omega (arith, q .0, c .second-top, seam-below))) (λ q. q) (bounds-cases (B .top) (listed (B .holes)) (P .seam) (c .seam-bounds-second)) in
         let t : B .top + 3 < 2 * n = subst (λ x. x + 3 < 2 * n) (sym (c .second-top)) (subst (λ (x : Piece). x .top + 3 < 2 * n) (sym at) (d .stands p r .top-in-range)) in
         let fb = inside-fits n (span e) pre (B .top) b (in-root (B .top) t) (k .1) in
         ⊎-elim
@@ -113,10 +113,12 @@ seams-part-lanes n e ps fl d p r c =
           (λ h. inl (sa .edge-terminals .all z (record { of-side = t; listed-there = passed-seam n e fl ps d p (P .first) t (omega arith) (c .first-parent) s ra h; low-or-high = w .low-or-high })))
           (λ h. inr (sb .edge-terminals .all z (record { of-side = t; listed-there = passed-seam n e fl ps d p (P .second) t (omega arith) (c .second-parent) s rb h; low-or-high = w .low-or-high })))
           (c .parts .covered (s .triangle) (s .held-there));
-      x-edge =
-          (sa .edge-terminals .all (e .low (P .seam)) (record { of-side = P .seam; listed-there = c .seam-bounds-first; low-or-high = inl refl }),
-           sb .edge-terminals .all (e .low (P .seam)) (record { of-side = P .seam; listed-there = c .seam-bounds-second; low-or-high = inl refl }));
-      y-edge =
-          (sa .edge-terminals .all (e .high (P .seam)) (record { of-side = P .seam; listed-there = c .seam-bounds-first; low-or-high = inr refl }),
-           sb .edge-terminals .all (e .high (P .seam)) (record { of-side = P .seam; listed-there = c .seam-bounds-second; low-or-high = inr refl }));
+      x-edge = (
+        sa .edge-terminals .all (e .low (P .seam)) (record { of-side = P .seam; listed-there = c .seam-bounds-first; low-or-high = inl refl }),
+        sb .edge-terminals .all (e .low (P .seam)) (record { of-side = P .seam; listed-there = c .seam-bounds-second; low-or-high = inl refl }),
+      );
+      y-edge = (
+        sa .edge-terminals .all (e .high (P .seam)) (record { of-side = P .seam; listed-there = c .seam-bounds-first; low-or-high = inr refl }),
+        sb .edge-terminals .all (e .high (P .seam)) (record { of-side = P .seam; listed-there = c .seam-bounds-second; low-or-high = inr refl }),
+      );
     }

@@ -18,7 +18,6 @@ use Rattle.pieces.specs.Division.{Division, PieceStands, Uncut, CutInTwo}
 use Rattle.pieces.specs.Holders.{OnWayUp, Holders-on-way-up, climbs, wayUp, WayUp, Way-up-complete}
 
 module _ (n : ℕ) (e : Ends) (ps : List Piece) (d : Division n e ps) where
-
   -- a piece with a number above 0 is a child of its parent, which is cut
   pub record UnderCut (p : ℕ) : Type 0 where
     pub lower : pieceAt ps p .parent < p
@@ -73,7 +72,7 @@ module _ (n : ℕ) (e : Ends) (ps : List Piece) (d : Division n e ps) where
   one-child p c b zp rp zc rc same hp hc =
       let u = under-cut p zp rp in
       let w : (pieceAt ps (pieceAt ps p .parent) .first ≡ c) ⊎ (pieceAt ps (pieceAt ps p .parent) .second ≡ c) =
-            subst (λ r. (pieceAt ps r .first ≡ c) ⊎ (pieceAt ps r .second ≡ c)) same (under-cut c zc rc .which) in
+      subst (λ r. (pieceAt ps r .first ≡ c) ⊎ (pieceAt ps r .second ≡ c)) same (under-cut c zc rc .which) in
       let at = λ (x y : ℕ) (s : x ≡ y) (h : Holds (span e) (pieceAt ps y) b). subst (λ z. Holds (span e) (pieceAt ps z) b) (sym s) h in
       ⊎-elim
       (λ f. ⊎-elim (λ g. sym f ∙ g) (λ g. absurd (u .cut .parts .apart b (at _ p f hp) (at _ c g hc))) w)
@@ -93,11 +92,11 @@ module _ (n : ℕ) (e : Ends) (ps : List Piece) (d : Division n e ps) where
       ⊎-elim
       (λ s. absurd (⊎-elim (λ f. omega (arith, ap (λ x. pieceAt ps x .first) s, leaf .no-first, f)) (λ f. omega (arith, ap (λ x. pieceAt ps x .second) s, leaf .no-second, f)) (u .which)))
       (λ a.
-        let c = child-on r q rq a in
-        let rc : c .0 + 5 < 2 * n = omega (arith, c .1 .2) in
-        let hc = on-holds (c .0) q b rq (c .1 .3) hq in
-        let s = one-child (suc p) (c .0) b (omega arith) rp (c .1 .1) rc (c .1 .0) hp hc in
-        subst (λ x. OnWayUp ps x q) (sym s) (c .1 .3))
+      let c = child-on r q rq a in
+      let rc : c .0 + 5 < 2 * n = omega (arith, c .1 .2) in
+      let hc = on-holds (c .0) q b rq (c .1 .3) hq in
+      let s = one-child (suc p) (c .0) b (omega arith) rp (c .1 .1) rc (c .1 .0) hp hc in
+      subst (λ x. OnWayUp ps x q) (sym s) (c .1 .3))
       (holds-on q b rq leaf hq g r (omega (arith, u .lower)) (omega (arith, u .lower)) (parent-holds (suc p) b (omega arith) rp hp))
 
   -- a triangle is held by one uncut piece
@@ -105,13 +104,13 @@ module _ (n : ℕ) (e : Ends) (ps : List Piece) (d : Division n e ps) where
   one-uncut p q b rp rq up′ uq hp hq =
       ⊎-elim (λ s. s)
       (λ a.
-        let c = child-on p q rq a in
-        let u = under-cut (c .0) (c .1 .1) (omega (arith, c .1 .2)) in
-        let s = c .1 .0 in
-        let some = u .which in
-        absurd (⊎-elim
-          (λ f. omega (arith, ap (λ x. pieceAt ps x .first) s, up′ .no-first, f, c .1 .1))
-          (λ f. omega (arith, ap (λ x. pieceAt ps x .second) s, up′ .no-second, f, c .1 .1)) some))
+      let c = child-on p q rq a in
+      let u = under-cut (c .0) (c .1 .1) (omega (arith, c .1 .2)) in
+      let s = c .1 .0 in
+      let some = u .which in
+      absurd (⊎-elim
+      (λ f. omega (arith, ap (λ x. pieceAt ps x .first) s, up′ .no-first, f, c .1 .1))
+      (λ f. omega (arith, ap (λ x. pieceAt ps x .second) s, up′ .no-second, f, c .1 .1)) some))
       (holds-on q b rq uq hq p p (omega arith) rp hp)
 
   -- a piece lies one level below its parent
@@ -140,20 +139,22 @@ module _ (n : ℕ) (e : Ends) (ps : List Piece) (d : Division n e ps) where
     way zero q r l = absurd (omega arith)
     way (suc f) zero r l =
         let e0 : wayUp ps (suc f) 0 ≡ 0 ∷ [] = ap (λ ws. 0 ∷ ws) (cond-false (climbs ps 0) (wayUp ps f (pieceAt ps 0 .parent)) [] stops-at-0) in
-        let lev = d .whole-plan .level-0 in
-        (omega (arith, ap length e0),
-         λ p m. ⊎-elim (λ s. inl s) (λ s. absurd s) (subst (λ ws. Among p ws) e0 m),
-         λ p o. subst (λ ws. Among p ws) (sym e0) (⊎-elim (λ s. inl s) (λ a. absurd (none-above-0 p a)) o))
+        let lev = d .whole-plan .level-0 in (
+          omega (arith, ap length e0),
+          λ p m. ⊎-elim (λ s. inl s) (λ s. absurd s) (subst (λ ws. Among p ws) e0 m),
+          λ p o. subst (λ ws. Among p ws) (sym e0) (⊎-elim (λ s. inl s) (λ a. absurd (none-above-0 p a)) o),
+        )
     way (suc f) (suc q) r l =
         let z : 0 < suc q = omega arith in
         let u = under-cut (suc q) z r in
         let m = pieceAt ps (suc q) .parent in
         let e1 : wayUp ps (suc f) (suc q) ≡ suc q ∷ wayUp ps f m = ap (λ ws. suc q ∷ ws) (cond-true (climbs ps (suc q)) (wayUp ps f m) [] (goes-up (suc q) z r)) in
         let lev = level-up (suc q) z r in
-        let h = way f m (omega (arith, u .lower)) (omega arith) in
-        (omega (arith, ap length e1, h .0),
-         λ p a. ⊎-elim (λ s. inl s) (λ s. inr (⊎-elim (λ t. parent z (sym t)) (λ t. higher z refl t) (h .1 p s))) (subst (λ ws. Among p ws) e1 a),
-         λ p o. subst (λ ws. Among p ws) (sym e1) (⊎-elim (λ s. inl s) (λ a. inr (h .2 p (above-parent p (suc q) a))) o))
+        let h = way f m (omega (arith, u .lower)) (omega arith) in (
+          omega (arith, ap length e1, h .0),
+          λ p a. ⊎-elim (λ s. inl s) (λ s. inr (⊎-elim (λ t. parent z (sym t)) (λ t. higher z refl t) (h .1 p s))) (subst (λ ws. Among p ws) e1 a),
+          λ p o. subst (λ ws. Among p ws) (sym e1) (⊎-elim (λ s. inl s) (λ a. inr (h .2 p (above-parent p (suc q) a))) o),
+        )
 
     pub way-up : (q f : ℕ) → q + 5 < 2 * n → 41 ≤ f → WayUp ps q (wayUp ps f q)
     way-up q f r l =

@@ -70,13 +70,13 @@ module _ (n : ℕ) (len : ℕ → ℕ) (pre : Preorder n len) (ps : List Piece) 
         complete = λ a ab b h side. ⊎-elim
             (λ e. subst (λ x. Among x (boundsOf v (innerList len v hs))) (sym (ap (λ x. pieceAt ps x .seam) e ∙ seam)) (bounds-top v (innerList len v hs) (omega (arith, c .below))))
             (λ up.
-              let w = inner-held n len pre top hs s v c b h in
-              let x = pieceAt ps a .seam in
-              ⊎-elim
-              (λ t. ⊎-elim (λ e. absurd (omega (arith, t .0, h .1 .0, c .below))) (λ ch. absurd (omega (arith, t .0, child-inside n len pre b x (fits b w) ch .2, h .1 .0, c .below))) side)
-              (λ m. ⊎-elim (λ e. absurd (w .2 x m (subst (λ y. Inside len y b) (sym e) (itself b (w .0)))))
-                (λ ch. bounds-hole v (innerList len v hs) x (inner-among n len pre top hs s v c x m (inside-trans n len pre v b x (inside-fits n len pre top v (s .fit) (c .inside)) (h .1) (child-inside n len pre b x (fits b w) ch .0)))) side)
-              (bounds-cases top hs x (k .complete a up b w side)))
+            let w = inner-held n len pre top hs s v c b h in
+            let x = pieceAt ps a .seam in
+            ⊎-elim
+            (λ t. ⊎-elim (λ e. absurd (omega (arith, t .0, h .1 .0, c .below))) (λ ch. absurd (omega (arith, t .0, child-inside n len pre b x (fits b w) ch .2, h .1 .0, c .below))) side)
+            (λ m. ⊎-elim (λ e. absurd (w .2 x m (subst (λ y. Inside len y b) (sym e) (itself b (w .0)))))
+            (λ ch. bounds-hole v (innerList len v hs) x (inner-among n len pre top hs s v c x m (inside-trans n len pre v b x (inside-fits n len pre top v (s .fit) (c .inside)) (h .1) (child-inside n len pre b x (fits b w) ch .0)))) side)
+            (bounds-cases top hs x (k .complete a up b w side)))
             (above-child ps a (p + 1) p ab f);
         cut-above = λ x m. ⊎-elim
             (λ t. (p, (parent (omega arith) f, seam ∙ sym (t .0))))
@@ -106,15 +106,15 @@ module _ (n : ℕ) (len : ℕ → ℕ) (pre : Preorder n len) (ps : List Piece) 
         complete = λ a ab b h side. ⊎-elim
             (λ e. subst (λ x. Among x (boundsOf top (outerList len v hs))) (sym (ap (λ x. pieceAt ps x .seam) e ∙ seam)) (bounds-hole top (outerList len v hs) v (seam-among n len pre top hs s v c)))
             (λ up.
-              let w = outer-held n len pre top hs s v c b h in
-              let x = pieceAt ps a .seam in
-              ⊎-elim
-              (λ t. subst (λ y. Among y (boundsOf top (outerList len v hs))) (sym (t .0)) (bounds-top top (outerList len v hs) (t .1)))
-              (λ m. bounds-hole top (outerList len v hs) x (outer-among n len pre top hs s v c x m
-                (λ i. ⊎-elim (λ e. w .2 x m (subst (λ y. Inside len y b) (sym e) (itself b (w .0))))
-                  (λ ch. ⊎-elim (λ e. c .clear x m (subst (λ y. Inside len y v) e (itself v (c .base)))) (λ j. h .2 v (seam-among n len pre top hs s v c) j)
-                    (parent-inside n len pre b x v (fits b w) ch i)) side)))
-              (bounds-cases top hs x (k .complete a up b w side)))
+            let w = outer-held n len pre top hs s v c b h in
+            let x = pieceAt ps a .seam in
+            ⊎-elim
+            (λ t. subst (λ y. Among y (boundsOf top (outerList len v hs))) (sym (t .0)) (bounds-top top (outerList len v hs) (t .1)))
+            (λ m. bounds-hole top (outerList len v hs) x (outer-among n len pre top hs s v c x m
+            (λ i. ⊎-elim (λ e. w .2 x m (subst (λ y. Inside len y b) (sym e) (itself b (w .0))))
+            (λ ch. ⊎-elim (λ e. c .clear x m (subst (λ y. Inside len y v) e (itself v (c .base)))) (λ j. h .2 v (seam-among n len pre top hs s v c) j)
+            (parent-inside n len pre b x v (fits b w) ch i)) side)))
+            (bounds-cases top hs x (k .complete a up b w side)))
             (above-child ps a q p ab f);
         cut-above = λ x m. ⊎-elim
             (λ t. under q pos f x (subst (λ y. Among y (boundsOf top hs)) (sym (t .0)) (bounds-top top hs (t .1))))
@@ -122,23 +122,40 @@ module _ (n : ℕ) (len : ℕ → ℕ) (pre : Preorder n len) (ps : List Piece) 
             (bounds-cases top (outerList len v hs) x m);
         hole-sides = λ h m. ⊎-elim
             (λ e.
-              let r = parent-below n len pre top v (s .fit) (c .inside) (λ z. omega (arith, c .below)) in
-              let b = r .0 in
-              let fb = inside-fits n len pre top b (s .fit) (r .1 .0) in
-              let ci = child-inside n len pre b v fb (r .1 .1) in
-              (b, ((r .1 .1 .base, r .1 .0, λ y o j. ⊎-elim
-                    (λ z. omega (arith, z, j .0, ci .2))
-                    (λ z. c .clear y (z .0) (inside-trans n len pre y b v (inside-fits n len pre top y (s .fit) (hole-inside n len pre top hs s y (z .0))) j (ci .0)))
-                    (among-outer n len pre top hs s v c y o)),
-                  subst (Child len b) (sym e) (r .1 .1))))
+            let r = parent-below n len pre top v (s .fit) (c .inside) (λ z. omega (arith, c .below)) in
+            let b = r .0 in
+            let fb = inside-fits n len pre top b (s .fit) (r .1 .0) in
+            let ci = child-inside n len pre b v fb (r .1 .1) in (
+              b,
+              (
+                (
+                  r .1 .1 .base,
+                  r .1 .0,
+                  λ y o j. ⊎-elim
+                      (λ z. omega (arith, z, j .0, ci .2))
+                      (λ z. c .clear y (z .0) (inside-trans n len pre y b v (inside-fits n len pre top y (s .fit) (hole-inside n len pre top hs s y (z .0))) j (ci .0)))
+                      (among-outer n len pre top hs s v c y o),
+                ),
+                subst (Child len b) (sym e) (r .1 .1),
+              ),
+            ))
             (λ z.
-              let r = k .hole-sides h (z .0) in
-              let b = r .0 in
-              let w = r .1 .0 in
-              (b, ((w .0, w .1, λ y o j. ⊎-elim
-                    (λ u. z .1 (inside-trans n len pre v b h (inside-fits n len pre top v (s .fit) (c .inside)) (subst (λ i. Inside len i b) u j) (child-inside n len pre b h (fits b w) (r .1 .1) .0)))
-                    (λ u. w .2 y (u .0) j)
-                    (among-outer n len pre top hs s v c y o)), r .1 .1)))
+            let r = k .hole-sides h (z .0) in
+            let b = r .0 in
+            let w = r .1 .0 in (
+              b,
+              (
+                (
+                  w .0,
+                  w .1,
+                  λ y o j. ⊎-elim
+                      (λ u. z .1 (inside-trans n len pre v b h (inside-fits n len pre top v (s .fit) (c .inside)) (subst (λ i. Inside len i b) u j) (child-inside n len pre b h (fits b w) (r .1 .1) .0)))
+                      (λ u. w .2 y (u .0) j)
+                      (among-outer n len pre top hs s v c y o),
+                ),
+                r .1 .1,
+              ),
+            ))
             (among-outer n len pre top hs s v c h m);
         deep = deep-part level (triangles len hs top) (seams top hs) (triangles len (outerList len v hs) top) (seams top (outerList len v hs)) (k .deep) two (s .few) (outer-left n len pre top hs s v c);
         under-parent = λ _. (omega arith, inr number);

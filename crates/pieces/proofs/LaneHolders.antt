@@ -34,7 +34,7 @@ lane-holders n e ps fl d long i leaf f r m enough =
     let pre = preorder n e fl in
     let w = way-up n e ps d long leaf f (m .in-range) enough in
     let once = λ (b : ℕ) (own : Belongs (span e) i b).
-          belongs-once n (span e) pre i b (m .triangle) (in-root n e fl b (triangle-range n (span e) i b r own)) (in-root n e fl (m .triangle) (triangle-range n (span e) i (m .triangle) r (m .belongs))) own (m .belongs) in
+    belongs-once n (span e) pre i b (m .triangle) (in-root n e fl b (triangle-range n (span e) i b r own)) (in-root n e fl (m .triangle) (triangle-range n (span e) i (m .triangle) r (m .belongs))) own (m .belongs) in
     let hold = holders n e ps d leaf (m .triangle) (m .in-range) (m .uncut) (m .holds-it) in
     record {
       at-most = w .at-most;

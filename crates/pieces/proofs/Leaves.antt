@@ -47,9 +47,9 @@ module _ (n : ℕ) (ss : List Side) (fl : Filled n (endsOf ss)) (ps : List Piece
       let in0 : Inside (lengths ss) 0 i = (omega arith, omega arith) in
       ⊎-elim
       (λ u.
-        let ne : 0 ≡ i → ⊥ = λ s. omega (arith, ap (lengths ss) s) in
-        let p = parent-below n (lengths ss) pre 0 i (root-fits n (lengths ss) pre) in0 ne in
-        (p .0, (inr (omega arith, p .1 .1), p .1 .1 .base, p .1 .0)))
+      let ne : 0 ≡ i → ⊥ = λ s. omega (arith, ap (lengths ss) s) in
+      let p = parent-below n (lengths ss) pre 0 i (root-fits n (lengths ss) pre) in0 ne in
+      (p .0, (inr (omega arith, p .1 .1), p .1 .1 .base, p .1 .0)))
       (λ u. (i, (inl (u, refl), u, in0)))
       (cases-lt (lengths ss i) 2)
 
@@ -67,13 +67,13 @@ module _ (n : ℕ) (ss : List Side) (fl : Filled n (endsOf ss)) (ps : List Piece
   find-leaf (suc g) p b l r h =
       ⊎-elim (λ u. (p, (r, u, h)))
       (λ c.
-        let f = c .first-number in
-        let o = c .in-order in
-        let z = c .in-range in
-        ⊎-elim
-        (λ k. find-leaf g (pieceAt ps p .first) b (omega arith) (omega arith) k)
-        (λ k. find-leaf g (pieceAt ps p .second) b (omega arith) z k)
-        (c .parts .covered b h))
+      let f = c .first-number in
+      let o = c .in-order in
+      let z = c .in-range in
+      ⊎-elim
+      (λ k. find-leaf g (pieceAt ps p .first) b (omega arith) (omega arith) k)
+      (λ k. find-leaf g (pieceAt ps p .second) b (omega arith) z k)
+      (c .parts .covered b h))
       (d .stands p r .cut)
 
   top-fits : (q : ℕ) → q + 5 < 2 * n → Uncut n (lengths ss) (pieceAt ps q) → Fit n (lengths ss) (pieceAt ps q .top) × (2 ≤ lengths ss (pieceAt ps q .top))
@@ -102,29 +102,29 @@ module _ (n : ℕ) (ss : List Side) (fl : Filled n (endsOf ss)) (ps : List Piece
         let rm : m + 5 < 2 * n = omega arith in
         ⊎-elim
         (λ t.
-          let u = uncut-from m rm (eqb-true (P .first) 0 t) in
-          let tf = top-fits m rm u in
-          let pre′ : Preorder n (lengths xs) = subst (Preorder n) (sym len) (preorder n (endsOf ss) fl) in
-          let fit′ : Fit n (lengths xs) (P .top) = subst (λ (f : ℕ → ℕ). Fit n f (P .top)) (sym len) (tf .0) in
-          let base′ : 2 ≤ lengths xs (P .top) = subst (λ (f : ℕ → ℕ). 2 ≤ f (P .top)) (sym len) (tf .1) in
-          ap (λ (ys : List Side). getD ys i noSide .leaf) (cond-true (eqb (P .first) 0) (markTriangle xs (P .top) m) xs t)
-          ∙ ⊎-elim
-            (λ s. triangle-on n xs pre′ (omega arith) (P .top) m fit′ base′ i ri
-                  (subst (λ (f : ℕ → ℕ). Belongs f i (P .top)) (sym len) (subst (λ k. Belongs (lengths ss) i (pieceAt ps k .top)) s own)) ∙ sym s)
-            (λ ne.
-              triangle-off n xs pre′ (omega arith) (P .top) m fit′ base′ i
-              (λ k.
-                let uq = uncut-from q r z in
-                let tq = top-fits q r uq in
-                let k′ : Belongs (lengths ss) i (P .top) = subst (λ (f : ℕ → ℕ). Belongs f i (P .top)) len k in
-                let e = belongs-once n (lengths ss) (preorder n (endsOf ss) fl) i (pieceAt ps q .top) (P .top) (tq .0) (tf .0) own k′ in
-                ne (one-uncut n (endsOf ss) ps d q m (P .top) r rm uq u (subst (Holds (lengths ss) (pieceAt ps q)) e (uq .its-base)) (u .its-base)))
-              ∙ marks m (omega arith) q (omega arith) r z i ri own)
-            (cases-eq q m))
+        let u = uncut-from m rm (eqb-true (P .first) 0 t) in
+        let tf = top-fits m rm u in
+        let pre′ : Preorder n (lengths xs) = subst (Preorder n) (sym len) (preorder n (endsOf ss) fl) in
+        let fit′ : Fit n (lengths xs) (P .top) = subst (λ (f : ℕ → ℕ). Fit n f (P .top)) (sym len) (tf .0) in
+        let base′ : 2 ≤ lengths xs (P .top) = subst (λ (f : ℕ → ℕ). 2 ≤ f (P .top)) (sym len) (tf .1) in
+        ap (λ (ys : List Side). getD ys i noSide .leaf) (cond-true (eqb (P .first) 0) (markTriangle xs (P .top) m) xs t)
+        ∙ ⊎-elim
+        (λ s. triangle-on n xs pre′ (omega arith) (P .top) m fit′ base′ i ri
+        (subst (λ (f : ℕ → ℕ). Belongs f i (P .top)) (sym len) (subst (λ k. Belongs (lengths ss) i (pieceAt ps k .top)) s own)) ∙ sym s)
+        (λ ne.
+        triangle-off n xs pre′ (omega arith) (P .top) m fit′ base′ i
+        (λ k.
+        let uq = uncut-from q r z in
+        let tq = top-fits q r uq in
+        let k′ : Belongs (lengths ss) i (P .top) = subst (λ (f : ℕ → ℕ). Belongs f i (P .top)) len k in
+        let e = belongs-once n (lengths ss) (preorder n (endsOf ss) fl) i (pieceAt ps q .top) (P .top) (tq .0) (tf .0) own k′ in
+        ne (one-uncut n (endsOf ss) ps d q m (P .top) r rm uq u (subst (Holds (lengths ss) (pieceAt ps q)) e (uq .its-base)) (u .its-base)))
+        ∙ marks m (omega arith) q (omega arith) r z i ri own)
+        (cases-eq q m))
         (λ t.
-          let ne : q ≡ m → ⊥ = λ s. eqb-false (P .first) 0 t (ap (λ k. pieceAt ps k .first) (sym s) ∙ z) in
-          ap (λ (ys : List Side). getD ys i noSide .leaf) (cond-false (eqb (P .first) 0) (markTriangle xs (P .top) m) xs t)
-          ∙ marks m (omega arith) q (omega arith) r z i ri own)
+        let ne : q ≡ m → ⊥ = λ s. eqb-false (P .first) 0 t (ap (λ k. pieceAt ps k .first) (sym s) ∙ z) in
+        ap (λ (ys : List Side). getD ys i noSide .leaf) (cond-false (eqb (P .first) 0) (markTriangle xs (P .top) m) xs t)
+        ∙ marks m (omega arith) q (omega arith) r z i ri own)
         (cases-bool (eqb (P .first) 0))
 
     pub leaves : LeavesMarked n (markAll ss ps (2 * n - 5)) (lengths ss) ps
@@ -143,10 +143,10 @@ pub leaf-once : (n : ℕ) (e : Ends) → Filled n e → (ps : List Piece) → Di
 leaf-once n e fl ps d i l m a b =
     let pre = preorder n e fl in
     let fits = λ (q t : ℕ) (r : q + 5 < 2 * n) (h : Holds (span e) (pieceAt ps q) t).
-          let P = pieceAt ps q in
-          let k = shown-holds (span e) P (P .top) (listed (P .holes)) (P .level) (P .parent) (itself P) t h in
-          let top = d .stands q r .top-in-range in
-          let root = pre .root in
-          inside-fits n (span e) pre (P .top) t (inside-fits n (span e) pre 0 (P .top) (root-fits n (span e) pre) (omega arith, omega arith)) (k .1) in
+    let P = pieceAt ps q in
+    let k = shown-holds (span e) P (P .top) (listed (P .holes)) (P .level) (P .parent) (itself P) t h in
+    let top = d .stands q r .top-in-range in
+    let root = pre .root in
+    inside-fits n (span e) pre (P .top) t (inside-fits n (span e) pre 0 (P .top) (root-fits n (span e) pre) (omega arith, omega arith)) (k .1) in
     let same = belongs-once n (span e) pre i (a .triangle) (b .triangle) (fits l (a .triangle) (a .in-range) (a .holds-it)) (fits m (b .triangle) (b .in-range) (b .holds-it)) (a .belongs) (b .belongs) in
     one-uncut n e ps d l m (b .triangle) (a .in-range) (b .in-range) (a .uncut) (b .uncut) (subst (Holds (span e) (pieceAt ps l)) same (a .holds-it)) (b .holds-it)

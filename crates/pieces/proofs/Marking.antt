@@ -35,8 +35,10 @@ same-ends ss ss′ same =
   where
     side : (k : ℕ) → bare (getD ss′ k noSide) ≡ bare (getD ss k noSide)
     side k = bare-side ss′ k ∙ ap (λ xs. getD xs k noSide) same ∙ sym (bare-side ss k)
+
     lows : endsOf ss′ .low ≡ endsOf ss .low
     lows = fun-ext (λ k. ap (λ (s : Side). s .low) (side k))
+
     highs : endsOf ss′ .high ≡ endsOf ss .high
     highs = fun-ext (λ k. ap (λ (s : Side). s .high) (side k))
 
@@ -124,12 +126,12 @@ module _ (n : ℕ) (ss : List Side) (pre : Preorder n (lengths ss)) (long : 2 * 
       let c2 = same-count ss m2 same2 in
       ⊎-elim
       (λ s.
-        let at : i ≡ left b = s ∙ sym is-left in
-        unit-keeps m2 (right (lengths ss) b) q i (omega arith)
-        (subst (λ k. leafAt m2 k ≡ q) (sym at) (unit-on m1 (left b) q (omega arith) (len1 (left b) ∙ ap (lengths ss) (sym at) ∙ h .0))))
+      let at : i ≡ left b = s ∙ sym is-left in
+      unit-keeps m2 (right (lengths ss) b) q i (omega arith)
+      (subst (λ k. leafAt m2 k ≡ q) (sym at) (unit-on m1 (left b) q (omega arith) (len1 (left b) ∙ ap (lengths ss) (sym at) ∙ h .0))))
       (λ s.
-        let at : i ≡ right (lengths ss) b = s ∙ sym is-right in
-        subst (λ k. leafAt (markTriangle ss b q) k ≡ q) (sym at) (unit-on m2 (right (lengths ss) b) q (omega arith) (len2 (right (lengths ss) b) ∙ ap (lengths ss) (sym at) ∙ h .0)))
+      let at : i ≡ right (lengths ss) b = s ∙ sym is-right in
+      subst (λ k. leafAt (markTriangle ss b q) k ≡ q) (sym at) (unit-on m2 (right (lengths ss) b) q (omega arith) (len2 (right (lengths ss) b) ∙ ap (lengths ss) (sym at) ∙ h .0)))
       (h .1 .which)
 
   pub triangle-off : (i : ℕ) → (Belongs (lengths ss) i b → ⊥) → leafAt (markTriangle ss b q) i ≡ leafAt ss i
@@ -139,5 +141,5 @@ module _ (n : ℕ) (ss : List Side) (pre : Preorder n (lengths ss)) (long : 2 * 
       unit-off m2 (right (lengths ss) b) q i
       (λ s u. no′ (inr (ap (lengths ss) s ∙ sym (len2 (right (lengths ss) b)) ∙ u, record { base = base; which = inr (s ∙ is-right) })))
       ∙ unit-off m1 (left b) q i
-        (λ s u. no′ (inr (ap (lengths ss) s ∙ sym (len1 (left b)) ∙ u, record { base = base; which = inl (s ∙ is-left) })))
+      (λ s u. no′ (inr (ap (lengths ss) s ∙ sym (len1 (left b)) ∙ u, record { base = base; which = inl (s ∙ is-left) })))
       ∙ one-off ss b q i (λ s. no′ (inl (subst (λ k. 2 ≤ lengths ss k) (sym s) base, sym s)))

@@ -51,26 +51,27 @@ module _ (n : ℕ) (len : ℕ → ℕ) (pre : Preorder n len) (top : ℕ) (hs : 
   inner-row =
       row-kept len (within len v) (top + 2) hs (top + 2 * len top) (v + 2) (v + 2 * len v) (s .row)
       (λ h m t.
-        let i = within-inside len v h t in
-        let b = c .base in
-        let other : v ≡ h → ⊥ = λ e. c .clear h m (subst (λ k. Inside len k v) e (omega arith, omega arith)) in
-        (omega arith, nested n len pre v h seam-fits i))
+      let i = within-inside len v h t in
+      let b = c .base in
+      let other : v ≡ h → ⊥ = λ e. c .clear h m (subst (λ k. Inside len k v) e (omega arith, omega arith)) in
+      (omega arith, nested n len pre v h seam-fits i))
       (omega (arith, c .base))
 
   pub outer-row : Row len (top + 2) (outerList len v hs) (top + 2 * len top)
   outer-row =
       row-join len (top + 2) (kept-by (λ h. ltb h v) hs) v (kept-by (behind len v) hs) (top + 2 * len top)
       (row-kept len (λ h. ltb h v) (top + 2) hs (top + 2 * len top) (top + 2) (v + 1) (s .row)
-       (λ h m t.
-         let l = ltb-true h v t in
-         let b = hole-base h m in
-         (row-at len (top + 2) hs (top + 2 * len top) h (s .row) m .0,
-          ⊎-elim (λ i. absurd (omega arith)) (λ q. ⊎-elim (λ k. k) (λ k. absurd (omega (arith, c .base))) q) (where-hole h m)))
-       (omega (arith, c .below)))
+      (λ h m t.
+      let l = ltb-true h v t in
+      let b = hole-base h m in (
+        row-at len (top + 2) hs (top + 2 * len top) h (s .row) m .0,
+        ⊎-elim (λ i. absurd (omega arith)) (λ q. ⊎-elim (λ k. k) (λ k. absurd (omega (arith, c .base))) q) (where-hole h m),
+      ))
+      (omega (arith, c .below)))
       (c .base)
       (row-kept len (behind len v) (top + 2) hs (top + 2 * len top) (v + 2 * len v) (top + 2 * len top) (s .row)
-       (λ h m t. (leb-true (v + 2 * len v) (h + 1) t, row-at len (top + 2) hs (top + 2 * len top) h (s .row) m .2))
-       (nested n len pre top v (s .fit) (c .inside)))
+      (λ h m t. (leb-true (v + 2 * len v) (h + 1) t, row-at len (top + 2) hs (top + 2 * len top) h (s .row) m .2))
+      (nested n len pre top v (s .fit) (c .inside)))
 
   pub among-inner : (h : ℕ) → Among h (innerList len v hs) → Among h hs × Inside len v h
   among-inner h m = let r = among-kept (within len v) hs h m in (r .0, within-inside len v h (r .1))
@@ -83,7 +84,7 @@ module _ (n : ℕ) (len : ℕ → ℕ) (pre : Preorder n len) (top : ℕ) (hs : 
       ⊎-elim
       (λ a. let r = among-kept (λ k. ltb k v) hs h a in inr (r .0, λ i. omega (arith, ltb-true h v (r .1))))
       (λ a. ⊎-elim (λ e. inl e)
-        (λ q. let r = among-kept (behind len v) hs h q in inr (r .0, λ i. omega (arith, leb-true (v + 2 * len v) (h + 1) (r .1)))) a)
+      (λ q. let r = among-kept (behind len v) hs h q in inr (r .0, λ i. omega (arith, leb-true (v + 2 * len v) (h + 1) (r .1)))) a)
       (among-either (kept-by (λ k. ltb k v) hs) (v ∷ kept-by (behind len v) hs) h m)
 
   pub outer-among : (h : ℕ) → Among h hs → (Inside len v h → ⊥) → Among h (outerList len v hs)
@@ -91,8 +92,8 @@ module _ (n : ℕ) (len : ℕ → ℕ) (pre : Preorder n len) (top : ℕ) (hs : 
       let b = hole-base h m in
       ⊎-elim (λ i. absurd (o i))
       (λ q. ⊎-elim
-        (λ k. among-left (kept-by (λ k. ltb k v) hs) (v ∷ kept-by (behind len v) hs) h (kept-among (λ k. ltb k v) hs h m (lt-ltb h v (omega arith))))
-        (λ k. among-right (kept-by (λ k. ltb k v) hs) (v ∷ kept-by (behind len v) hs) h (inr (kept-among (behind len v) hs h m (le-leb (v + 2 * len v) (h + 1) k)))) q)
+      (λ k. among-left (kept-by (λ k. ltb k v) hs) (v ∷ kept-by (behind len v) hs) h (kept-among (λ k. ltb k v) hs h m (lt-ltb h v (omega arith))))
+      (λ k. among-right (kept-by (λ k. ltb k v) hs) (v ∷ kept-by (behind len v) hs) h (inr (kept-among (behind len v) hs h m (le-leb (v + 2 * len v) (h + 1) k)))) q)
       (where-hole h m)
 
   pub seam-among : Among v (outerList len v hs)
@@ -104,15 +105,15 @@ module _ (n : ℕ) (len : ℕ → ℕ) (pre : Preorder n len) (top : ℕ) (hs : 
       let on = λ (t : Bool) (x : ℕ) (e : t ≡ true). cond-true t x 0 e in
       let off = λ (t : Bool) (x : ℕ) (e : t ≡ false). cond-false t x 0 e in
       let a = sum-add w (λ h. cond (ltb h v) (w h) 0) (λ h. cond (within len v h) (w h) 0 + cond (behind len v h) (w h) 0) hs
-            (λ h m.
-              let b = hole-base h m in
-              let d = c .base in
-              ⊎-elim
-              (λ i. omega (arith, off (ltb h v) (w h) (le-ltb h v (i .0)), on (within len v h) (w h) (inside-within len v h i), off (behind len v h) (w h) (lt-leb (v + 2 * len v) (h + 1) (i .1))))
-              (λ q. ⊎-elim
-                (λ l. omega (arith, on (ltb h v) (w h) (lt-ltb h v (omega arith)), off (within len v h) (w h) (outside-within len v h (λ i. omega arith)), off (behind len v h) (w h) (lt-leb (v + 2 * len v) (h + 1) (omega arith))))
-                (λ l. omega (arith, off (ltb h v) (w h) (le-ltb h v (omega arith)), off (within len v h) (w h) (outside-within len v h (λ i. omega arith)), on (behind len v h) (w h) (le-leb (v + 2 * len v) (h + 1) l))) q)
-              (where-hole h m)) in
+      (λ h m.
+      let b = hole-base h m in
+      let d = c .base in
+      ⊎-elim
+      (λ i. omega (arith, off (ltb h v) (w h) (le-ltb h v (i .0)), on (within len v h) (w h) (inside-within len v h i), off (behind len v h) (w h) (lt-leb (v + 2 * len v) (h + 1) (i .1))))
+      (λ q. ⊎-elim
+      (λ l. omega (arith, on (ltb h v) (w h) (lt-ltb h v (omega arith)), off (within len v h) (w h) (outside-within len v h (λ i. omega arith)), off (behind len v h) (w h) (lt-leb (v + 2 * len v) (h + 1) (omega arith))))
+      (λ l. omega (arith, off (ltb h v) (w h) (le-ltb h v (omega arith)), off (within len v h) (w h) (outside-within len v h (λ i. omega arith)), on (behind len v h) (w h) (le-leb (v + 2 * len v) (h + 1) l))) q)
+      (where-hole h m)) in
       let e = sum-add (λ h. cond (within len v h) (w h) 0 + cond (behind len v h) (w h) 0) (λ h. cond (within len v h) (w h) 0) (λ h. cond (behind len v h) (w h) 0) hs (λ h m. refl) in
       omega (arith, sum-kept (λ h. ltb h v) w hs, sum-kept (behind len v) w hs)
 
@@ -172,20 +173,24 @@ module _ (n : ℕ) (len : ℕ → ℕ) (pre : Preorder n len) (top : ℕ) (hs : 
       (cases-bool (within len v b))
 
   pub inner-held : (b : ℕ) → Held len v (innerList len v hs) b → Held len top hs b
-  inner-held b h =
-      (h .0, inside-trans n len pre top v b (s .fit) (c .inside) (h .1),
-       λ k m i.
-         ⊎-elim (λ j. h .2 k (inner-among k m j) i)
-         (λ q. let f = inside-fits n len pre v b seam-fits (h .1) in ⊎-elim (λ l. omega (arith, h .1 .0, i .1)) (λ l. omega (arith, h .1 .1, i .0)) q)
-         (where-hole k m))
+  inner-held b h = (
+    h .0,
+    inside-trans n len pre top v b (s .fit) (c .inside) (h .1),
+    λ k m i.
+        ⊎-elim (λ j. h .2 k (inner-among k m j) i)
+        (λ q. let f = inside-fits n len pre v b seam-fits (h .1) in ⊎-elim (λ l. omega (arith, h .1 .0, i .1)) (λ l. omega (arith, h .1 .1, i .0)) q)
+        (where-hole k m),
+  )
 
   pub outer-held : (b : ℕ) → Held len top (outerList len v hs) b → Held len top hs b
-  outer-held b h =
-      (h .0, h .1,
-       λ k m i. ⊎-elim
-         (λ j. h .2 v seam-among (inside-trans n len pre v k b seam-fits j i))
-         (λ q. h .2 k (outer-among k m (λ j. let d = hole-base k m in let e = c .base in ⊎-elim (λ l. omega arith) (λ l. omega arith) q)) i)
-         (where-hole k m))
+  outer-held b h = (
+    h .0,
+    h .1,
+    λ k m i. ⊎-elim
+        (λ j. h .2 v seam-among (inside-trans n len pre v k b seam-fits j i))
+        (λ q. h .2 k (outer-among k m (λ j. let d = hole-base k m in let e = c .base in ⊎-elim (λ l. omega arith) (λ l. omega arith) q)) i)
+        (where-hole k m),
+  )
 
   pub held-once : (b : ℕ) → Held len v (innerList len v hs) b → Held len top (outerList len v hs) b → ⊥
   held-once b h k = k .2 v seam-among (h .1)

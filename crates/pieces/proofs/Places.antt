@@ -27,10 +27,10 @@ module _ (n : ℕ) (e : Ends) (f : Filled n e) where
   ends-between i j fit into =
       walk n (span e) preorder (λ k. (e .low i ≤ e .low k) × (e .high k ≤ e .high i))
       (λ k fk base p.
-        let h = halved-at k fk base in (
-          (omega (arith, p .0, h .low-same), omega (arith, p .1, h .below-high)),
-          (omega (arith, p .0, h .meet, h .above-low), omega (arith, p .1, h .high-same)),
-        ))
+      let h = halved-at k fk base in (
+        (omega (arith, p .0, h .low-same), omega (arith, p .1, h .below-high)),
+        (omega (arith, p .0, h .meet, h .above-low), omega (arith, p .1, h .high-same)),
+      ))
       (span e i) i j (omega arith) fit (omega arith, omega arith) into
 
   -- Of two sides apart below k, the one that stands first lies before the other on the ring: go down from k until the two
@@ -41,7 +41,7 @@ module _ (n : ℕ) (e : Ends) (f : Filled n e) where
       let low = nested n (span e) preorder k i fit p in
       let rises = f .rising i (omega arith) in
       let base : 2 ≤ span e k =
-            ⊎-elim (λ eq. absurd (omega (arith, ap (span e) eq, p, q))) (λ ne. omega arith) (cases-eq k i) in
+      ⊎-elim (λ eq. absurd (omega (arith, ap (span e) eq, p, q))) (λ ne. omega arith) (cases-eq k i) in
       let s = halves n (span e) preorder k fit base in
       let h = halved-at k fit base in
       let fl = left-fits n (span e) preorder k fit base in
@@ -50,12 +50,12 @@ module _ (n : ℕ) (e : Ends) (f : Filled n e) where
       let nj : k ≡ j → ⊥ = λ eq. omega (arith, p .0) in
       ⊎-elim
       (λ l. ⊎-elim
-        (λ m. before g (k + 1) i j (omega arith) fl (omega arith, omega arith) (omega arith, omega arith) apart r)
-        (λ m.
-          let x = ends-between (k + 1) i fl (omega arith, omega arith) in
-          let y = ends-between (rightOf (span e) k) j fr (omega arith, omega arith) in
-          omega (arith, x .1, y .0, h .meet))
-        (cases-lt j (rightOf (span e) k)))
+      (λ m. before g (k + 1) i j (omega arith) fl (omega arith, omega arith) (omega arith, omega arith) apart r)
+      (λ m.
+      let x = ends-between (k + 1) i fl (omega arith, omega arith) in
+      let y = ends-between (rightOf (span e) k) j fr (omega arith, omega arith) in
+      omega (arith, x .1, y .0, h .meet))
+      (cases-lt j (rightOf (span e) k)))
       (λ l. before g (rightOf (span e) k) i j (omega arith) fr (omega arith, omega arith) (omega arith, omega arith) apart r)
       (cases-lt i (rightOf (span e) k))
 

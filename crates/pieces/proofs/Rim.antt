@@ -62,16 +62,16 @@ raise f x k r room low = go (cases-bool test)
         let is = added-list f x p c in
         let n = added-count f x p c in
         let at : lastOf (added f x) ≡ x =
-              ap lastOf (added-is f x p c)
-              ∙ ap (λ (m : ℕ). getD (set (f .at) (f .count) x) m 0) (omega arith)
-              ∙ getD-set-same (f .at) (f .count) x 0 (omega (arith, p .places)) in
+        ap lastOf (added-is f x p c)
+        ∙ ap (λ (m : ℕ). getD (set (f .at) (f .count) x) m 0) (omega arith)
+        ∙ getD-set-same (f .at) (f .count) x 0 (omega (arith, p .places)) in
         let above : (y : ℕ) → Among y (listed f) → y < x =
-              λ y m. ⊎-elim
-                (λ z. let e = eqb-true (f .count) 0 z in let l = listed-length f p in absurd (nothing (listed f) (omega arith) y m))
-                (λ z. omega (arith, r .top y m, ltb-true (lastOf f) x z))
-                (or-cases (eqb (f .count) 0) (ltb (lastOf f) x) t) in
+        λ y m. ⊎-elim
+        (λ z. let e = eqb-true (f .count) 0 z in let l = listed-length f p in absurd (nothing (listed f) (omega arith) y m))
+        (λ z. omega (arith, r .top y m, ltb-true (lastOf f) x z))
+        (or-cases (eqb (f .count) 0) (ltb (lastOf f) x) t) in
         let into : (y : ℕ) → Among y (listed (added f x)) → Among y (listed f) ⊎ (y ≡ x) =
-              λ y m. ⊎-elim (λ a. inl a) (λ a. ⊎-elim (λ e. inr e) (λ b. absurd b) a) (among-either (listed f) (x ∷ []) y (subst (λ ys. Among y ys) is m)) in
+        λ y m. ⊎-elim (λ a. inl a) (λ a. ⊎-elim (λ e. inr e) (λ b. absurd b) a) (among-either (listed f) (x ∷ []) y (subst (λ ys. Among y ys) is m)) in
         let newest : Among x (listed (added f x)) = subst (λ ys. Among x ys) (sym is) (among-right (listed f) (x ∷ []) x (inl refl)) in
         subst (Raised f x k) (sym (cond-true test (added f x) f t))
         (record {

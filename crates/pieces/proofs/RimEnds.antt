@@ -50,19 +50,19 @@ module _ (n : ℕ) (e : Ends) (fl : Filled n e) where
       let two = raise f1 (e .high h) (k + 1) (one .rises) (omega arith) (λ _. omega (arith, one .last-is)) in
       let f2 = raised f1 (e .high h) in
       let rest = go-round hs f2 (h + 2 * span e h) z (k + 1 + 1) (row .2) (λ x m. range x (inr m)) (two .rises) (omega arith)
-            (λ _ x m. omega (arith, two .last-is, ends-before n e fl h x (range h (inl refl)) (range x (inr m)) (row-at (span e) (h + 2 * span e h) hs z x (row .2) m .0))) in
+      (λ _ x m. omega (arith, two .last-is, ends-before n e fl h x (range h (inl refl)) (range x (inr m)) (row-at (span e) (h + 2 * span e h) hs z x (row .2) m .0))) in
       let rr = rest .rises in
       record {
         rises = record { pinned = rr .pinned; rising = rr .rising; top = rr .top; last = rr .last; few = omega (arith, rr .few) };
         old = λ y m. rest .old y (two .old y (one .old y m));
         new = λ x m. ⊎-elim
             (λ q. subst (λ s. Among (e .low s) (listed (folded (around e) f2 hs)) × Among (e .high s) (listed (folded (around e) f2 hs))) (sym q)
-              (rest .old (e .low h) (two .old (e .low h) (one .new)), rest .old (e .high h) (two .new)))
+            (rest .old (e .low h) (two .old (e .low h) (one .new)), rest .old (e .high h) (two .new)))
             (λ q. rest .new x q) m;
         only = λ y m. ⊎-elim
             (λ a. ⊎-elim
-              (λ b. ⊎-elim (λ c. inl c) (λ c. inr (record { of-side = h; listed-there = inl refl; low-or-high = inl c })) (one .only y b))
-              (λ b. inr (record { of-side = h; listed-there = inl refl; low-or-high = inr b })) (two .only y a))
+            (λ b. ⊎-elim (λ c. inl c) (λ c. inr (record { of-side = h; listed-there = inl refl; low-or-high = inl c })) (one .only y b))
+            (λ b. inr (record { of-side = h; listed-there = inl refl; low-or-high = inr b })) (two .only y a))
             (λ a. inr (one-more e h hs y a)) (rest .only y m);
         under = λ m u v. rest .under m (λ _. omega (arith, two .last-is, v h (inl refl))) (λ x q. v x (inr q));
       }
@@ -89,13 +89,13 @@ module _ (n : ℕ) (e : Ends) (fl : Filled n e) (top : ℕ) (hs : List ℕ) (s :
       let r = go-round n e fl hs none (top + 2) (top + 2 * span e top) 0 (s .row) in-range (none-rises 0) (omega arith) (λ c. absurd (omega arith)) in
       subst (λ ss. Listing e ss (rim e top hs)) (sym (cond-true (eqb top 0) hs (top ∷ hs) t))
       (subst (Listing e hs) (sym (cond-true (eqb top 0) (folded (around e) none hs) (raised (folded (around e) (raised none (e .low top)) hs) (e .high top)) t))
-       (record {
-         pinned = r .rises .pinned;
-         rising = r .rises .rising;
-         all = λ x d. ⊎-elim (λ q. subst (λ y. Among y (listed (folded (around e) none hs))) (sym q) (r .new (d .of-side) (d .listed-there) .0))
-               (λ q. subst (λ y. Among y (listed (folded (around e) none hs))) (sym q) (r .new (d .of-side) (d .listed-there) .1)) (d .low-or-high);
-         only = λ x m. ⊎-elim (λ a. absurd a) (λ d. d) (r .only x m);
-       }))
+      (record {
+        pinned = r .rises .pinned;
+        rising = r .rises .rising;
+        all = λ x d. ⊎-elim (λ q. subst (λ y. Among y (listed (folded (around e) none hs))) (sym q) (r .new (d .of-side) (d .listed-there) .0))
+            (λ q. subst (λ y. Among y (listed (folded (around e) none hs))) (sym q) (r .new (d .of-side) (d .listed-there) .1)) (d .low-or-high);
+        only = λ x m. ⊎-elim (λ a. absurd a) (λ d. d) (r .only x m);
+      }))
 
   under-seam : eqb top 0 ≡ false → Listing e (boundsOf top hs) (rim e top hs)
   under-seam t =
@@ -105,31 +105,31 @@ module _ (n : ℕ) (e : Ends) (fl : Filled n e) (top : ℕ) (hs : List ℕ) (s :
       let f1 = raised none (e .low top) in
       let between = λ (h : ℕ) (m : Among h hs). ends-between n e fl top h (s .fit) (hole-inside n (span e) (preorder n e fl) top hs s h m) in
       let r = go-round n e fl hs f1 (top + 2) (top + 2 * span e top) 1 (s .row) in-range (one .rises) (omega arith)
-            (λ _ h m. omega (arith, one .last-is, between h m .0)) in
+      (λ _ h m. omega (arith, one .last-is, between h m .0)) in
       let g = folded (around e) f1 hs in
       let base = s .base in
       let last = raise g (e .high top) (1 + 2 * length hs) (r .rises) (omega arith)
-            (r .under (e .high top) (λ _. omega (arith, one .last-is)) (λ h m. between h m .1)) in
+      (r .under (e .high top) (λ _. omega (arith, one .last-is)) (λ h m. between h m .1)) in
       let end = raised g (e .high top) in
       subst (λ ss. Listing e ss (rim e top hs)) (sym (cond-false (eqb top 0) hs (top ∷ hs) t))
       (subst (Listing e (top ∷ hs)) (sym (cond-false (eqb top 0) (folded (around e) none hs) end t))
-       (record {
-         pinned = last .rises .pinned;
-         rising = last .rises .rising;
-         all = λ x d. ⊎-elim
-             (λ q. ⊎-elim
-               (λ p. subst (λ y. Among y (listed end)) (sym (q ∙ ap (λ y. e .low y) p)) (last .old (e .low top) (r .old (e .low top) (one .new))))
-               (λ p. subst (λ y. Among y (listed end)) (sym q) (last .old (e .low (d .of-side)) (r .new (d .of-side) p .0))) (d .listed-there))
-             (λ q. ⊎-elim
-               (λ p. subst (λ y. Among y (listed end)) (sym (q ∙ ap (λ y. e .high y) p)) (last .new))
-               (λ p. subst (λ y. Among y (listed end)) (sym q) (last .old (e .high (d .of-side)) (r .new (d .of-side) p .1))) (d .listed-there))
-             (d .low-or-high);
-         only = λ x m. ⊎-elim
-             (λ a. ⊎-elim
-               (λ b. ⊎-elim (λ c. absurd c) (λ c. record { of-side = top; listed-there = inl refl; low-or-high = inl c }) (one .only x b))
-               (λ d. one-more e top hs x d) (r .only x a))
-             (λ a. record { of-side = top; listed-there = inl refl; low-or-high = inr a }) (last .only x m);
-       }))
+      (record {
+        pinned = last .rises .pinned;
+        rising = last .rises .rising;
+        all = λ x d. ⊎-elim
+            (λ q. ⊎-elim
+            (λ p. subst (λ y. Among y (listed end)) (sym (q ∙ ap (λ y. e .low y) p)) (last .old (e .low top) (r .old (e .low top) (one .new))))
+            (λ p. subst (λ y. Among y (listed end)) (sym q) (last .old (e .low (d .of-side)) (r .new (d .of-side) p .0))) (d .listed-there))
+            (λ q. ⊎-elim
+            (λ p. subst (λ y. Among y (listed end)) (sym (q ∙ ap (λ y. e .high y) p)) (last .new))
+            (λ p. subst (λ y. Among y (listed end)) (sym q) (last .old (e .high (d .of-side)) (r .new (d .of-side) p .1))) (d .listed-there))
+            (d .low-or-high);
+        only = λ x m. ⊎-elim
+            (λ a. ⊎-elim
+            (λ b. ⊎-elim (λ c. absurd c) (λ c. record { of-side = top; listed-there = inl refl; low-or-high = inl c }) (one .only x b))
+            (λ d. one-more e top hs x d) (r .only x a))
+            (λ a. record { of-side = top; listed-there = inl refl; low-or-high = inr a }) (last .only x m);
+      }))
 
   pub rim-lists : Listing e (boundsOf top hs) (rim e top hs)
   rim-lists = ⊎-elim under-root under-seam (cases-bool (eqb top 0))

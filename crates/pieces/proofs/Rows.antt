@@ -39,10 +39,10 @@ module _ (len : ℕ → ℕ) where
   row-apart a (x ∷ xs) e h k r m o =
       ⊎-elim
       (λ p. ⊎-elim (λ q. inl (p ∙ sym q))
-        (λ q. let s = row-at (x + 2 * len x) xs e k (r .2) q in inr (inl (subst (λ y. y + 2 * len y ≤ k + 1) (sym p) (s .0)))) o)
+      (λ q. let s = row-at (x + 2 * len x) xs e k (r .2) q in inr (inl (subst (λ y. y + 2 * len y ≤ k + 1) (sym p) (s .0)))) o)
       (λ p. ⊎-elim
-        (λ q. let s = row-at (x + 2 * len x) xs e h (r .2) p in inr (inr (subst (λ y. y + 2 * len y ≤ h + 1) (sym q) (s .0))))
-        (λ q. row-apart (x + 2 * len x) xs e h k (r .2) p q) o)
+      (λ q. let s = row-at (x + 2 * len x) xs e h (r .2) p in inr (inr (subst (λ y. y + 2 * len y ≤ h + 1) (sym q) (s .0))))
+      (λ q. row-apart (x + 2 * len x) xs e h k (r .2) p q) o)
       m
 
   pub row-sum : (a : ℕ) (hs : List ℕ) (e : ℕ) → Row len a hs e → a + 2 * sumBy (inner len) hs + length hs ≤ e
@@ -55,12 +55,12 @@ module _ (len : ℕ → ℕ) where
   row-kept f a (h ∷ hs) e low high r b l =
       cond-both (f h) (h ∷ kept-by f hs) (kept-by f hs) (λ xs. Row len low xs high)
       (λ t.
-        let here = b h (inl refl) t in (
-          here .0,
-          r .1,
-          row-kept f (h + 2 * len h) hs e (h + 2 * len h) high (r .2)
-          (λ k m u. (row-at (h + 2 * len h) hs e k (r .2) m .0, b k (inr m) u .1)) (here .1),
-        ))
+      let here = b h (inl refl) t in (
+        here .0,
+        r .1,
+        row-kept f (h + 2 * len h) hs e (h + 2 * len h) high (r .2)
+            (λ k m u. (row-at (h + 2 * len h) hs e k (r .2) m .0, b k (inr m) u .1)) (here .1),
+      ))
       (λ t. row-kept f (h + 2 * len h) hs e low high (r .2) (λ k m u. b k (inr m) u) l)
 
   pub row-join : (a : ℕ) (xs : List ℕ) (v : ℕ) (ys : List ℕ) (e : ℕ) → Row len a xs (v + 1) → 2 ≤ len v → Row len (v + 2 * len v) ys e → Row len a (xs ++ v ∷ ys) e

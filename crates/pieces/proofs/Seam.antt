@@ -39,20 +39,22 @@ module _ (n : ℕ) (len : ℕ → ℕ) (pre : Preorder n len) (top : ℕ) (hs : 
 
   -- A child with a triangle of the piece is no hole, since a hole has none; so it is clear, and a base.
   good-triangles : (m : ℕ) → 1 ≤ m → (u x : ℕ) → Inside len top u → Clear len hs u → Child len u x → m + 1 ≤ 1 + 2 * triangles len hs x → Clear len hs x × (2 ≤ len x)
-  good-triangles m one u x into clear c heavy =
-      (clear-child n len pre top hs s u x into clear c
-       (λ a. let f = fits-child u x into c in
-             let h = load-has n len pre top hs s (inner len) x x a (omega arith, omega arith) in omega arith),
-       omega arith)
+  good-triangles m one u x into clear c heavy = (
+    clear-child n len pre top hs s u x into clear c
+        (λ a. let f = fits-child u x into c in
+        let h = load-has n len pre top hs s (inner len) x x a (omega arith, omega arith) in omega arith),
+    omega arith,
+  )
 
   -- A child with two holes below is no hole, since only one lies at or below a hole.
   good-holes : (u x : ℕ) → Inside len top u → Clear len hs u → Child len u x → 3 ≤ 0 + 2 * load len (λ _. 1) hs x → Clear len hs x × (2 ≤ len x)
   good-holes u x into clear c heavy =
       let f = fits-child u x into c in
-      let b = load-bound n len pre top hs s x (f .0) (f .1) in
-      (clear-child n len pre top hs s u x into clear c
-       (λ a. let h = load-has n len pre top hs s (inner len) x x a (omega arith, omega arith) in omega arith),
-       omega arith)
+      let b = load-bound n len pre top hs s x (f .0) (f .1) in (
+        clear-child n len pre top hs s u x into clear c
+            (λ a. let h = load-has n len pre top hs s (inner len) x x a (omega arith, omega arith) in omega arith),
+        omega arith,
+      )
 
   cut-by : (b : Bool) → (b ≡ true → seams top hs ≡ 4) → 2 ≤ triangles len hs top → Cut len top hs b (descend len (weight len b hs) (cond b 2 (share (triangles len hs top))) (len top) top)
   cut-by true holes several =
@@ -61,8 +63,8 @@ module _ (n : ℕ) (len : ℕ → ℕ) (pre : Preorder n len) (top : ℕ) (hs : 
       let ones = sum-ones hs in
       let three : 3 ≤ w top = omega (arith, holes refl, seams-bound top hs) in
       let f = descends n len pre top (s .fit) w 0 2 (Clear len hs)
-            (λ u into clear base. omega (arith, load-halves n len pre top hs s (λ _. 1) u into clear base))
-            good-holes (len top) top (omega arith) (omega arith, omega (arith, s .base)) (top-clear n len pre top hs s) (s .base) (λ l. absurd (omega arith)) in
+      (λ u into clear base. omega (arith, load-halves n len pre top hs s (λ _. 1) u into clear base))
+      good-holes (len top) top (omega arith) (omega arith, omega (arith, s .base)) (top-clear n len pre top hs s) (s .base) (λ l. absurd (omega arith)) in
       record {
         inside = f .inside;
         below = f .below;
@@ -78,8 +80,8 @@ module _ (n : ℕ) (len : ℕ → ℕ) (pre : Preorder n len) (top : ℕ) (hs : 
       let t = triangles len hs top in
       let w = triangles len hs in
       let f = descends n len pre top (s .fit) w 1 (share t) (Clear len hs)
-            (λ u into clear base. omega (arith, triangles-halves n len pre top hs s u into clear base))
-            (good-triangles (share t) (omega arith)) (len top) top (omega arith) (omega arith, omega (arith, s .base)) (top-clear n len pre top hs s) (s .base) (λ l. absurd (omega arith)) in
+      (λ u into clear base. omega (arith, triangles-halves n len pre top hs s u into clear base))
+      (good-triangles (share t) (omega arith)) (len top) top (omega arith) (omega arith, omega (arith, s .base)) (top-clear n len pre top hs s) (s .base) (λ l. absurd (omega arith)) in
       record {
         inside = f .inside;
         below = f .below;

@@ -67,8 +67,13 @@ module _ (n : ℕ) (e : Ends) (fl : Filled n e) where
   records-length {p} {P} (leaf l) r = omega (arith, sound-size n (span e) (preorder n e fl) (P .top) (listed (P .holes)) (r .sound))
   records-length {p} {P} (node {xs = xs} {ys = ys} two a b) r =
       let pre = preorder n e fl in
-      omega (arith, length-append xs ys, size-halves p P r two,
-        records-length a (first-ready n (span e) pre p P r two), records-length b (second-ready n (span e) pre p P r two))
+      omega (
+        arith,
+        length-append xs ys,
+        size-halves p P r two,
+        records-length a (first-ready n (span e) pre p P r two),
+        records-length b (second-ready n (span e) pre p P r two),
+      )
 
   module _ (ps : List Piece) where
     -- the piece of one triangle
@@ -76,7 +81,7 @@ module _ (n : ℕ) (e : Ends) (fl : Filled n e) where
     stands-leaf p P one r at k =
         subst (PieceStands n e ps p) (sym at)
         (stands-by n e fl ps p (single e P) k (r .pinned) refl
-         (inl (uncut n (span e) (preorder n e fl) (P .top) (listed (P .holes)) (r .sound) (single e P) (P .level) (P .parent) (itself (single e P)) one refl refl refl)))
+        (inl (uncut n (span e) (preorder n e fl) (P .top) (listed (P .holes)) (r .sound) (single e P) (P .level) (P .parent) (itself (single e P)) one refl refl refl)))
 
     -- the numbers of the parts fit 16 bits
     first-fits : (p : ℕ) (P : Piece) → p + 2 * size (span e) P + 4 ≤ 2 * n → 2 ≤ size (span e) P → cap (p + 1) ≡ p + 1
@@ -102,11 +107,11 @@ module _ (n : ℕ) (e : Ends) (fl : Filled n e) where
         let f2 = second-fits p t P (k .range) (omega (arith, h .0)) in
         subst (PieceStands n e ps p) (sym at)
         (stands-by n e fl ps p (cutRecord e p P) k (r .pinned) refl
-         (inr (cut-in-two n (span e) pre (P .top) hs (r .sound) v c p (cutRecord e p P)
-           (pieceAt ps (cap (p + 1))) (pieceAt ps (cap (p + 2 * t))) (P .level) (P .parent) (itself (cutRecord e p P))
-           (subst (λ x. Shown (pieceAt ps x) v (innerList (span e) v hs) (P .level + 1) p) (sym f1) wa)
-           (subst (λ x. Shown (pieceAt ps x) (P .top) (outerList (span e) v hs) (P .level + 1) p) (sym f2) wb)
-           refl f1 (f2 ∙ ap (λ x. p + 2 * x) fs) (k .range) two)))
+        (inr (cut-in-two n (span e) pre (P .top) hs (r .sound) v c p (cutRecord e p P)
+        (pieceAt ps (cap (p + 1))) (pieceAt ps (cap (p + 2 * t))) (P .level) (P .parent) (itself (cutRecord e p P))
+        (subst (λ x. Shown (pieceAt ps x) v (innerList (span e) v hs) (P .level + 1) p) (sym f1) wa)
+        (subst (λ x. Shown (pieceAt ps x) (P .top) (outerList (span e) v hs) (P .level + 1) p) (sym f2) wb)
+        refl f1 (f2 ∙ ap (λ x. p + 2 * x) fs) (k .range) two)))
 
     stand-all : {p : ℕ} {P : Piece} {ds : List Piece} → Records e p P ds → Ready n (span e) P → Placed ps p ds → Known n (span e) ps p (P .top) (listed (P .holes)) (P .level) (P .parent) → (q : ℕ) → p ≤ q → q < p + length ds → PieceStands n e ps q (pieceAt ps q)
     stand-all {p} {P} (leaf one) r pl k q low high =
@@ -128,9 +133,9 @@ module _ (n : ℕ) (e : Ends) (fl : Filled n e) where
         let t = size len (firstOf len p P) in
         let p2 = p + 2 * t in
         let pl1 : Placed ps (p + 1) xs = λ i l.
-              ap (λ x. pieceAt ps x) (omega arith) ∙ pl (suc i) (omega arith) ∙ getD-append-left xs ys whole i l in
+        ap (λ x. pieceAt ps x) (omega arith) ∙ pl (suc i) (omega arith) ∙ getD-append-left xs ys whole i l in
         let pl2 : Placed ps p2 ys = λ i l.
-              ap (λ x. pieceAt ps x) (omega arith) ∙ pl (suc (length xs + i)) (omega arith) ∙ getD-append-add xs ys i whole in
+        ap (λ x. pieceAt ps x) (omega arith) ∙ pl (suc (length xs + i)) (omega arith) ∙ getD-append-add xs ys i whole in
         let hx = head-shown a in
         let hy = head-shown b in
         let e1 : pieceAt ps (p + 1) ≡ getD xs 0 whole = ap (λ x. pieceAt ps x) (omega arith) ∙ pl1 0 (omega arith) in
@@ -140,26 +145,26 @@ module _ (n : ℕ) (e : Ends) (fl : Filled n e) where
         let l1 = first-list n len pre p P r two in
         let l2 = second-list n len pre p P r two in
         let wa : Shown (pieceAt ps (p + 1)) v (innerList len v hs) (P .level + 1) p =
-              subst (λ x. Shown x v (innerList len v hs) (P .level + 1) p) (sym e1)
-              (record { top-is = hx .top-is; holes-are = hx .holes-are ∙ l1; level-is = hx .level-is ∙ lev; parent-is = hx .parent-is }) in
+        subst (λ x. Shown x v (innerList len v hs) (P .level + 1) p) (sym e1)
+        (record { top-is = hx .top-is; holes-are = hx .holes-are ∙ l1; level-is = hx .level-is ∙ lev; parent-is = hx .parent-is }) in
         let wb : Shown (pieceAt ps p2) (P .top) (outerList len v hs) (P .level + 1) p =
-              subst (λ x. Shown x (P .top) (outerList len v hs) (P .level + 1) p) (sym e2)
-              (record { top-is = hy .top-is; holes-are = hy .holes-are ∙ l2; level-is = hy .level-is ∙ lev; parent-is = hy .parent-is }) in
+        subst (λ x. Shown x (P .top) (outerList len v hs) (P .level + 1) p) (sym e2)
+        (record { top-is = hy .top-is; holes-are = hy .holes-are ∙ l2; level-is = hy .level-is ∙ lev; parent-is = hy .parent-is }) in
         let f1 = first-fits p P (k .range) two in
         let f2 = second-fits p t P (k .range) (omega (arith, h .0)) in
         let fs = first-size n len pre p P r two in
         let k1 = known-first n len pre ps p (P .top) hs (P .level) (P .parent) k two v c (ap (λ (x : Piece). x .seam) at) (ap (λ (x : Piece). x .first) at ∙ f1) (wa .parent-is) in
         let k2 = known-second n len pre ps p (P .top) hs (P .level) (P .parent) k two v c (ap (λ (x : Piece). x .seam) at) p2 (ap (λ x. p + 2 * x) fs) (ap (λ (x : Piece). x .second) at ∙ f2) (wb .parent-is) in
         let k1′ : Known n len ps (p + 1) v (listed (firstOf len p P .holes)) (deeper P) p =
-              subst (λ x. Known n len ps (p + 1) v x (deeper P) p) (sym l1) (subst (λ x. Known n len ps (p + 1) v (innerList len v hs) x p) (sym lev) k1) in
+        subst (λ x. Known n len ps (p + 1) v x (deeper P) p) (sym l1) (subst (λ x. Known n len ps (p + 1) v (innerList len v hs) x p) (sym lev) k1) in
         let k2′ : Known n len ps p2 (P .top) (listed (secondOf len p P .holes)) (deeper P) p =
-              subst (λ x. Known n len ps p2 (P .top) x (deeper P) p) (sym l2) (subst (λ x. Known n len ps p2 (P .top) (outerList len v hs) x p) (sym lev) k2) in
+        subst (λ x. Known n len ps p2 (P .top) x (deeper P) p) (sym l2) (subst (λ x. Known n len ps p2 (P .top) (outerList len v hs) x p) (sym lev) k2) in
         ⊎-elim
         (λ z. subst (λ x. PieceStands n e ps x (pieceAt ps x)) z (stands-node p P two r at k wa wb))
         (λ z. ⊎-elim
-          (λ y. stand-all a r1 pl1 k1′ q (omega arith) (omega arith))
-          (λ y. stand-all b r2 pl2 k2′ q (omega arith) (omega arith))
-          (cases-lt q p2))
+        (λ y. stand-all a r1 pl1 k1′ q (omega arith) (omega arith))
+        (λ y. stand-all b r2 pl2 k2′ q (omega arith) (omega arith))
+        (cases-lt q p2))
         (cases-eq p q)
 
     whole-ready : Ready n (span e) whole
@@ -197,7 +202,7 @@ module _ (n : ℕ) (e : Ends) (fl : Filled n e) where
         let l = records-length rec whole-ready in
         let m : length ds ≡ 2 * n - 5 = omega arith in
         let pl : Placed ps 0 ds = λ i b.
-              ap (λ x. pieceAt ps x) (omega arith) ∙ sym (getD-take (2 * n - 5) ps i whole (omega arith)) ∙ ap (λ xs. getD xs i whole) at in
+        ap (λ x. pieceAt ps x) (omega arith) ∙ sym (getD-take (2 * n - 5) ps i whole (omega arith)) ∙ ap (λ xs. getD xs i whole) at in
         record {
           whole-plan = subst WholePlan (sym (pl 0 (omega arith))) (head-plan rec (record { no-parent = refl; level-0 = refl; root-side = refl; no-holes = refl }));
           stands = λ p b. stand-all rec whole-ready pl whole-known p (omega arith) (omega arith);

@@ -30,13 +30,13 @@ module _ (n : ℕ) (len : ℕ → ℕ) (pre : Preorder n len) where
   walk P step (suc f) i j b fit p into =
       ⊎-elim (λ e. subst P e p)
       (λ ne.
-        let base : 2 ≤ len i = omega arith in
-        let s = halves i fit base in
-        let down = step i fit base p in
-        ⊎-elim
-        (λ l. walk P step f (i + 1) j (omega arith) (left-fits i fit base) (down .0) (omega arith))
-        (λ l. walk P step f (rightOf len i) j (omega arith) (right-fits i fit base) (down .1) (omega arith))
-        (cases-lt j (rightOf len i)))
+      let base : 2 ≤ len i = omega arith in
+      let s = halves i fit base in
+      let down = step i fit base p in
+      ⊎-elim
+      (λ l. walk P step f (i + 1) j (omega arith) (left-fits i fit base) (down .0) (omega arith))
+      (λ l. walk P step f (rightOf len i) j (omega arith) (right-fits i fit base) (down .1) (omega arith))
+      (cases-lt j (rightOf len i)))
       (cases-eq i j)
 
   -- the sides below a side below i are below i
@@ -68,13 +68,13 @@ module _ (n : ℕ) (len : ℕ → ℕ) (pre : Preorder n len) where
   parent i j fit into other =
       ⊎-elim (λ e. absurd (other e)) (λ c. c)
       (walk (λ k. (i ≤ k) × (k + 2 * len k ≤ i + 2 * len i) × ((i ≡ k) ⊎ ((b : ℕ) × (Inside len i b × Child len b k))))
-       (λ k fk base p.
-         let s = halves k fk base in
-         let here : Inside len i k = (p .0, omega (arith, p .1)) in (
-           (omega (arith, p .0), omega (arith, p .1), inr (k, (here, record { base = base; which = inl refl }))),
-           (omega (arith, p .0), omega (arith, p .1), inr (k, (here, record { base = base; which = inr refl }))),
-         ))
-       (len i) i j (omega arith) fit (omega arith, omega arith, inl refl) into .2)
+      (λ k fk base p.
+      let s = halves k fk base in
+      let here : Inside len i k = (p .0, omega (arith, p .1)) in (
+        (omega (arith, p .0), omega (arith, p .1), inr (k, (here, record { base = base; which = inl refl }))),
+        (omega (arith, p .0), omega (arith, p .1), inr (k, (here, record { base = base; which = inr refl }))),
+      ))
+      (len i) i j (omega arith) fit (omega arith, omega arith, inl refl) into .2)
 
   pub child-inside : (b j : ℕ) → Fit n len b → Child len b j → Inside len b j × (j + 2 * len j ≤ b + 2 * len b) × (b < j)
   child-inside b j fit c =
@@ -91,11 +91,11 @@ module _ (n : ℕ) (len : ℕ → ℕ) (pre : Preorder n len) where
       let d = child-inside b j fit c in
       ⊎-elim
       (λ l. ⊎-elim (λ e. let e′ : h ≡ b + 1 = omega arith in inl (omega (arith, d .0)))
-        (λ e. ⊎-elim
-          (λ m. let low : Inside len (b + 1) h = (omega arith, omega arith) in
-                let q = nested (b + 1) h (left-fits b fit (c .base)) low in absurd (omega arith))
-          (λ m. inl (omega arith))
-          (cases-lt h (rightOf len b)))
-        (c .which))
+      (λ e. ⊎-elim
+      (λ m. let low : Inside len (b + 1) h = (omega arith, omega arith) in
+      let q = nested (b + 1) h (left-fits b fit (c .base)) low in absurd (omega arith))
+      (λ m. inl (omega arith))
+      (cases-lt h (rightOf len b)))
+      (c .which))
       (λ l. inr (l, omega (arith, d .2)))
       (cases-lt b h)

@@ -43,16 +43,30 @@ pub record UnderWay (n : ℕ) (e : Ends) (p : ℕ) (ps ts : List Piece) (k : ℕ
 line-frame : (n : ℕ) (len : ℕ → ℕ) (ts us : List Piece) (k p : ℕ) → ((j : ℕ) → j < k → getD us j whole ≡ getD ts j whole) → InLine n len ts k p → InLine n len us k p
 line-frame n len ts us zero p same l = l
 line-frame n len ts us (suc k) p same l =
-    let e = same k (omega arith) in
-    (l .0, (subst (Waits n len) (sym e) (l .1 .0), subst (λ (x : Piece). k ≤ x .level) (sym e) (l .1 .1),
-      subst (λ (x : Piece). l .0 + 1 ≡ p + 2 * size len x) (sym e) (l .1 .2), line-frame n len ts us k (l .0) (λ j b. same j (omega arith)) (l .1 .3)))
+    let e = same k (omega arith) in (
+      l .0,
+      (
+        subst (Waits n len) (sym e) (l .1 .0),
+        subst (λ (x : Piece). k ≤ x .level) (sym e) (l .1 .1),
+        subst (λ (x : Piece). l .0 + 1 ≡ p + 2 * size len x) (sym e) (l .1 .2),
+        line-frame n len ts us k (l .0) (λ j b. same j (omega arith)) (l .1 .3),
+      ),
+    )
 
 come-frame : (e : Ends) (ts us : List Piece) (k p : ℕ) (ys : List Piece) → ((j : ℕ) → j < k → getD us j whole ≡ getD ts j whole) → ToCome e us k p ys → ToCome e ts k p ys
 come-frame e ts us zero p ys same l = l
 come-frame e ts us (suc k) p ys same l =
-    let f = same k (omega arith) in
-    (l .0, l .1, l .2, (l .3 .0, subst (λ x. Records e p x (l .0)) f (l .3 .1), subst (λ x. l .2 + 1 ≡ p + 2 * size (span e) x) f (l .3 .2),
-      come-frame e ts us k (l .2) (l .1) (λ j b. same j (omega arith)) (l .3 .3)))
+    let f = same k (omega arith) in (
+      l .0,
+      l .1,
+      l .2,
+      (
+        l .3 .0,
+        subst (λ x. Records e p x (l .0)) f (l .3 .1),
+        subst (λ x. l .2 + 1 ≡ p + 2 * size (span e) x) f (l .3 .2),
+        come-frame e ts us k (l .2) (l .1) (λ j b. same j (omega arith)) (l .3 .3),
+      ),
+    )
 
 module _ (n : ℕ) (e : Ends) (fl : Filled n e) where
   waits-size : (P : Piece) → Waits n (span e) P → 1 ≤ size (span e) P
@@ -91,10 +105,11 @@ module _ (n : ℕ) (e : Ends) (fl : Filled n e) where
       let l2 = second-list n len pre p P r two in
       let few = r .sound .few in
       let d1 = deep-part (P .level) (size len P) (seams (P .top) hs) _ _ (w .deep) two few a in
-      let d2 = deep-part (P .level) (size len P) (seams (P .top) hs) _ _ (w .deep) two few b in
-      (record { ready = first-ready n len pre p P r two; deep = subst (λ (x : ℕ). Deep x (size len (firstOf len p P)) (seams v (listed (firstOf len p P .holes)))) (sym lev) (subst (λ (xs : List ℕ). Deep (P .level + 1) (Rattle.pieces.specs.Cuts.triangles len xs v) (seams v xs)) (sym l1) d1) },
-       record { ready = second-ready n len pre p P r two; deep = subst (λ (x : ℕ). Deep x (size len (secondOf len p P)) (seams (P .top) (listed (secondOf len p P .holes)))) (sym lev) (subst (λ (xs : List ℕ). Deep (P .level + 1) (Rattle.pieces.specs.Cuts.triangles len xs (P .top)) (seams (P .top) xs)) (sym l2) d2) },
-       lev)
+      let d2 = deep-part (P .level) (size len P) (seams (P .top) hs) _ _ (w .deep) two few b in (
+        record { ready = first-ready n len pre p P r two; deep = subst (λ (x : ℕ). Deep x (size len (firstOf len p P)) (seams v (listed (firstOf len p P .holes)))) (sym lev) (subst (λ (xs : List ℕ). Deep (P .level + 1) (Rattle.pieces.specs.Cuts.triangles len xs v) (seams v xs)) (sym l1) d1) },
+        record { ready = second-ready n len pre p P r two; deep = subst (λ (x : ℕ). Deep x (size len (secondOf len p P)) (seams (P .top) (listed (secondOf len p P .holes)))) (sym lev) (subst (λ (xs : List ℕ). Deep (P .level + 1) (Rattle.pieces.specs.Cuts.triangles len xs (P .top)) (seams (P .top) xs)) (sym l2) d2) },
+        lev,
+      )
 
   module _ (p : ℕ) (ps ts : List Piece) (k : ℕ) (P : Piece) (is : P ≡ getD ts k whole) (room : p < length ps) (u : UnderWay n e p ps ts (suc k)) where
     waits-here : Waits n (span e) P
@@ -114,9 +129,12 @@ module _ (n : ℕ) (e : Ends) (fl : Filled n e) where
           line = subst (InLine n (span e) ts k) (omega (arith, next-number)) (u .line .1 .3);
           together = λ ys c.
               subst (Records e 0 whole) (sym (written (single e P) ys))
-              (u .together (single e P ∷ ys)
-               (single e P ∷ [], ys, p + 1,
-                (refl, subst (λ x. Records e p x (single e P ∷ [])) is (leaf one), subst (λ x. p + 1 + 1 ≡ p + 2 * size (span e) x) is (omega arith), c)));
+              (u .together (single e P ∷ ys) (
+                single e P ∷ [],
+                ys,
+                p + 1,
+                (refl, subst (λ x. Records e p x (single e P ∷ [])) is (leaf one), subst (λ x. p + 1 + 1 ≡ p + 2 * size (span e) x) is (omega arith), c),
+              ));
         }
 
     -- a piece of several is finished, and its two parts wait, the first on top
@@ -132,20 +150,29 @@ module _ (n : ℕ) (e : Ends) (fl : Filled n e) where
         let ne : k ≢ suc k = λ x. omega arith in
         let atS : getD us k whole ≡ S = getD-set-other (set ts k S) (suc k) k F whole ne ∙ getD-set-same ts k S whole (omega arith) in
         let low : (j : ℕ) → j < k → getD us j whole ≡ getD ts j whole = λ j b.
-              getD-set-other (set ts k S) (suc k) j F whole (λ x. omega arith) ∙ getD-set-other ts k j S whole (λ x. omega arith) in
+        getD-set-other (set ts k S) (suc k) j F whole (λ x. omega arith) ∙ getD-set-other ts k j S whole (λ x. omega arith) in
         let w = parts-wait p P waits-here two in
         let h = size-halves n e fl p P (waits-here .ready) two in
         let level : k ≤ P .level = subst (λ (x : Piece). k ≤ x .level) (sym is) (u .line .1 .1) in
         let next = next-number in
         record {
-          line =
-              (p + 2 * size len F,
-               (subst (Waits n len) (sym atF) (w .0), subst (λ (x : Piece). suc k ≤ x .level) (sym atF) (omega (arith, w .2)),
-                subst (λ (x : Piece). p + 2 * size len F + 1 ≡ p + 1 + 2 * size len x) (sym atF) (omega arith),
-                (u .line .0,
-                 (subst (Waits n len) (sym atS) (w .1), subst (λ (x : Piece). k ≤ x .level) (sym atS) (omega (arith, w .2)),
+          line = (
+            p + 2 * size len F,
+            (
+              subst (Waits n len) (sym atF) (w .0),
+              subst (λ (x : Piece). suc k ≤ x .level) (sym atF) (omega (arith, w .2)),
+              subst (λ (x : Piece). p + 2 * size len F + 1 ≡ p + 1 + 2 * size len x) (sym atF) (omega arith),
+              (
+                u .line .0,
+                (
+                  subst (Waits n len) (sym atS) (w .1),
+                  subst (λ (x : Piece). k ≤ x .level) (sym atS) (omega (arith, w .2)),
                   subst (λ (x : Piece). u .line .0 + 1 ≡ p + 2 * size len F + 2 * size len x) (sym atS) (omega (arith, h .0)),
-                  line-frame n len ts us k (u .line .0) low (u .line .1 .3)))));
+                  line-frame n len ts us k (u .line .0) low (u .line .1 .3),
+                ),
+              ),
+            ),
+          );
           together = λ ys c.
               let xs = c .0 in
               let zs = c .1 in
@@ -159,10 +186,17 @@ module _ (n : ℕ) (e : Ends) (fl : Filled n e) where
               let last : b .2 + 1 ≡ p + 2 * size len P = omega (arith, q, h .0, subst (λ (x : Piece). b .2 + 1 ≡ c .2 + 2 * size len x) atS (b .3 .2)) in
               let rest : ys ≡ (xs ++ vs) ++ ws = a .0 ∙ ap (λ l. xs ++ l) (b .3 .0) ∙ sym (append-assoc xs vs ws) in
               subst (Records e 0 whole) (sym (written D ys ∙ ap (λ l. take p ps ++ (D ∷ l)) rest))
-              (u .together (D ∷ ((xs ++ vs) ++ ws))
-               (D ∷ (xs ++ vs), ws, b .2,
-                (refl, subst (λ x. Records e p x (D ∷ (xs ++ vs))) is (node two first second), subst (λ x. b .2 + 1 ≡ p + 2 * size len x) is last,
-                 come-frame e ts us k (b .2) ws low (b .3 .3))));
+              (u .together (D ∷ ((xs ++ vs) ++ ws)) (
+                D ∷ (xs ++ vs),
+                ws,
+                b .2,
+                (
+                  refl,
+                  subst (λ x. Records e p x (D ∷ (xs ++ vs))) is (node two first second),
+                  subst (λ x. b .2 + 1 ≡ p + 2 * size len x) is last,
+                  come-frame e ts us k (b .2) ws low (b .3 .3),
+                ),
+              ));
         }
 
   -- before the first turn only the whole plan waits
@@ -174,10 +208,10 @@ module _ (n : ℕ) (e : Ends) (fl : Filled n e) where
       let most = fl .most in
       let at : getD (set ts 0 whole) 0 whole ≡ whole = getD-set-same ts 0 whole whole wide in
       let w : Waits n (span e) whole =
-            record {
-              ready = record { sound = record { fit = root-fits n (span e) pre; base = omega arith; row = omega arith; few = omega arith }; pinned = none-pinned };
-              deep = deep-whole (span e 0 - 1 - 0) 0 (omega arith);
-            } in
+      record {
+        ready = record { sound = record { fit = root-fits n (span e) pre; base = omega arith; row = omega arith; few = omega arith }; pinned = none-pinned };
+        deep = deep-whole (span e 0 - 1 - 0) 0 (omega arith);
+      } in
       record {
         line = (2 * n - 5, (subst (Waits n (span e)) (sym at) w, omega arith, subst (λ x. 2 * n - 5 + 1 ≡ 0 + 2 * size (span e) x) (sym at) (omega arith), omega arith));
         together = λ ys c.

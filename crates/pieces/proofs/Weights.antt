@@ -66,15 +66,15 @@ module _ (n : ℕ) (len : ℕ → ℕ) (pre : Preorder n len) (top : ℕ) (hs : 
       let off = λ (i : ℕ) (k : Inside len i h → ⊥). cond-false (within len i h) (w h) 0 (outside-within len i h k) in
       ⊎-elim
       (λ t.
-        let hin = within-inside len u h t in
-        let other : u ≡ h → ⊥ = λ e. clear h m (subst (λ k. Inside len k u) e (omega arith, omega arith)) in
-        ⊎-elim
-        (λ l. omega (arith, on u hin, on (u + 1) (omega arith, omega arith), off (rightOf len u) (λ k. omega arith)))
-        (λ l. omega (arith, on u hin, on (rightOf len u) (omega arith, omega arith), off (u + 1) (λ k. omega arith)))
-        (cases-lt h (rightOf len u)))
+      let hin = within-inside len u h t in
+      let other : u ≡ h → ⊥ = λ e. clear h m (subst (λ k. Inside len k u) e (omega arith, omega arith)) in
+      ⊎-elim
+      (λ l. omega (arith, on u hin, on (u + 1) (omega arith, omega arith), off (rightOf len u) (λ k. omega arith)))
+      (λ l. omega (arith, on u hin, on (rightOf len u) (omega arith, omega arith), off (u + 1) (λ k. omega arith)))
+      (cases-lt h (rightOf len u)))
       (λ t.
-        let hout = within-outside len u h t in
-        omega (arith, off u hout, off (u + 1) (λ k. hout (omega arith, omega arith)), off (rightOf len u) (λ k. hout (omega arith, omega arith))))
+      let hout = within-outside len u h t in
+      omega (arith, off u hout, off (u + 1) (λ k. hout (omega arith, omega arith)), off (rightOf len u) (λ k. hout (omega arith, omega arith))))
       (cases-bool (within len u h))
 
   pub load-halves : (w : ℕ → ℕ) (u : ℕ) → Inside len top u → Clear len hs u → 2 ≤ len u → load len w hs u ≡ load len w hs (u + 1) + load len w hs (rightOf len u)
@@ -87,7 +87,7 @@ module _ (n : ℕ) (len : ℕ → ℕ) (pre : Preorder n len) (top : ℕ) (hs : 
   load-bound x fx rises =
       let ks = kept-by (within len x) hs in
       let row = row-kept len (within len x) (top + 2) hs (top + 2 * len top) (x + 1) (x + 2 * len x) (s .row)
-            (λ h m t. let i = within-inside len x h t in (omega arith, nested n len pre x h fx i)) (omega arith) in
+      (λ h m t. let i = within-inside len x h t in (omega arith, nested n len pre x h fx i)) (omega arith) in
       let sum = row-sum len (x + 1) ks (x + 2 * len x) row in
       let a = sum-kept (within len x) (inner len) hs in
       let b = sum-kept (within len x) (λ _. 1) hs in

@@ -18,7 +18,7 @@ pub divide-alike : Equal-plans-divide-alike
 divide-alike n links links₂ s s′ t t′ p p′ q q′ same a b =
     let m = sideCount n in
     let fronts : SameSides (take m s′) (take m t′) =
-          sym (take-map bare m t′) ∙ (sym (fills-alike n links links₂ (map bare s) (map bare s′) (map bare t) (map bare t′) same (a .fills) (b .fills)) ∙ take-map bare m s′) in
+    sym (take-map bare m t′) ∙ (sym (fills-alike n links links₂ (map bare s) (map bare s′) (map bare t) (map bare t′) same (a .fills) (b .fills)) ∙ take-map bare m s′) in
     let least = a .filled-ring .least in
     let long = area-long n s′ (omega arith) (a .triangulated) in
     let w = same-records n s′ t′ s′ t′ p′ q′ (a .filled-ring) (omega arith) fronts refl refl (a .divided) (b .divided) in

@@ -34,25 +34,33 @@ fn check_room(n: usize, sides: usize, pieces: usize, todo: usize) -> Result<(), 
     ensures { λ r. ⌜ ((links : List Link) → FirstIn (Condition n (lent n sides pieces todo) links) 0 2 r) ⌝ }
 {
     check_terminals(n)?;
-    check_areas(&[
-        Area {
-            needed: side_count(n),
-            given: sides,
-        },
-        Area {
-            needed: piece_count(n),
-            given: pieces,
-        },
-        Area {
-            needed: TODO_PIECES,
-            given: todo,
-        },
-    ])
+    check_areas(
+        &[
+            Area {
+                needed: side_count(n),
+                given: sides,
+            },
+            Area {
+                needed: piece_count(n),
+                given: pieces,
+            },
+            Area {
+                needed: TODO_PIECES,
+                given: todo,
+            },
+        ],
+    )
 }
 
 // Checks a plan, fills its ring and divides it into pieces. A refusal leaves the side and piece areas as they were;
 // the to-do area is free afterwards.
-pub fn lay_out(n: usize, links: &[Link], sides: &mut [Side], pieces: &mut [Piece], todo: &mut [Piece]) -> Result<(), PlanFault>
+pub fn lay_out(
+    n: usize,
+    links: &[Link],
+    sides: &mut [Side],
+    pieces: &mut [Piece],
+    todo: &mut [Piece],
+) -> Result<(), PlanFault>
     ensures checked { λ r. ⌜ First (Condition n (lent n (length (now (sides .entry))) (length (now (pieces .entry))) (length (now (todo .entry)))) (now (links .entry))) r ⌝ }
     ensures left { λ r. ⌜ Leaves n (now (links .entry)) (now (sides .entry)) (now (pieces .entry)) r (now (sides .exit)) (now (pieces .exit)) ⌝ }
 {

@@ -123,9 +123,6 @@ pub const LIMITS: [u16; 21] = [
     1,
 ];
 
-// No piece lies below this level.
-pub const DEEPEST: usize = 40;
-
 // The most triangles of a piece at level 2k; 0 past the row.
 pub fn limit_at(k: usize) -> u16
     ensures is { λ r. ⌜ r ≡ limit k ⌝ }

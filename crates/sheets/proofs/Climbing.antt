@@ -66,20 +66,20 @@ module _ {M : Type 0} (K : Kind M) where
       climbs = λ i j l l′.
           rows i j (omega (arith, e)) (omega (arith, e))
           ∙ cond-true (ltb j (cond (ltb i count) count 0)) (entry-at K p q a b i j) (K .none)
-            (ap (λ c. ltb j (cond c count 0)) (lt-ltb i count (omega (arith, e))) ∙ lt-ltb j count (omega (arith, e)))
+          (ap (λ c. ltb j (cond c count 0)) (lt-ltb i count (omega (arith, e))) ∙ lt-ltb j count (omega (arith, e)))
           ∙ entry-same i j l l′;
       row-unused = λ i j l m m′.
           rows i j m m′
           ∙ cond-false (ltb j (cond (ltb i count) count 0)) (entry-at K p q a b i j) (K .none)
-            (ap (λ c. ltb j (cond c count 0)) (le-ltb i count (omega (arith, e))) ∙ le-ltb j 0 (omega arith));
+          (ap (λ c. ltb j (cond c count 0)) (le-ltb i count (omega (arith, e))) ∙ le-ltb j 0 (omega arith));
       column-unused = λ i j m l m′.
           rows i j m m′
           ∙ ⊎-elim
-            (λ z. cond-false (ltb j (cond (ltb i count) count 0)) (entry-at K p q a b i j) (K .none)
-            (ap (λ c. ltb j (cond c count 0)) (lt-ltb i count z) ∙ le-ltb j count (omega (arith, e))))
-            (λ z. cond-false (ltb j (cond (ltb i count) count 0)) (entry-at K p q a b i j) (K .none)
-            (ap (λ c. ltb j (cond c count 0)) (le-ltb i count z) ∙ le-ltb j 0 (omega arith)))
-            (cases-lt i count);
+          (λ z. cond-false (ltb j (cond (ltb i count) count 0)) (entry-at K p q a b i j) (K .none)
+          (ap (λ c. ltb j (cond c count 0)) (lt-ltb i count z) ∙ le-ltb j count (omega (arith, e))))
+          (λ z. cond-false (ltb j (cond (ltb i count) count 0)) (entry-at K p q a b i j) (K .none)
+          (ap (λ c. ltb j (cond c count 0)) (le-ltb i count z) ∙ le-ltb j 0 (omega arith)))
+          (cases-lt i count);
     }
 
   module _ {V : Type 0} (means : V → M) where
@@ -94,18 +94,18 @@ module _ {M : Type 0} (K : Kind M) where
     rows-next f xs ys i n l e before here r k m m′ =
         ap (λ v. getD v (8 * r + k) (K .none)) (mid-mapped (8 * i) n xs ys)
         ∙ ⊎-elim
-          (λ z. subst (λ v. getD (take (8 * i) (map means xs) ++ (map means ys ++ map means (postOf (8 * i) n xs))) (8 * v + k) (K .none) ≡ f v k) (sym z)
-          (getD-append-right (take (8 * i) (map means xs)) (map means ys ++ map means (postOf (8 * i) n xs)) (8 * i) (8 * i + k) (K .none) front (omega arith)
-          ∙ getD-append-left (map means ys) (map means (postOf (8 * i) n xs)) (K .none) (8 * i + k - 8 * i) (omega (arith, length-map ys means))
-          ∙ ap (λ v. getD (map means ys) v (K .none)) (omega arith)
-          ∙ here k m′))
-          (⊎-elim
-          (λ z.
-          getD-append-left (take (8 * i) (map means xs)) (map means ys ++ map means (postOf (8 * i) n xs)) (K .none) (8 * r + k) (omega (arith, front))
-          ∙ getD-take (8 * i) (map means xs) (8 * r + k) (K .none) (omega arith)
-          ∙ before r k z m′)
-          (λ z. absurd (omega arith)))
-          (cases-order r i)
+        (λ z. subst (λ v. getD (take (8 * i) (map means xs) ++ (map means ys ++ map means (postOf (8 * i) n xs))) (8 * v + k) (K .none) ≡ f v k) (sym z)
+        (getD-append-right (take (8 * i) (map means xs)) (map means ys ++ map means (postOf (8 * i) n xs)) (8 * i) (8 * i + k) (K .none) front (omega arith)
+        ∙ getD-append-left (map means ys) (map means (postOf (8 * i) n xs)) (K .none) (8 * i + k - 8 * i) (omega (arith, length-map ys means))
+        ∙ ap (λ v. getD (map means ys) v (K .none)) (omega arith)
+        ∙ here k m′))
+        (⊎-elim
+        (λ z.
+        getD-append-left (take (8 * i) (map means xs)) (map means ys ++ map means (postOf (8 * i) n xs)) (K .none) (8 * r + k) (omega (arith, front))
+        ∙ getD-take (8 * i) (map means xs) (8 * r + k) (K .none) (omega arith)
+        ∙ before r k z m′)
+        (λ z. absurd (omega arith)))
+        (cases-order r i)
       where
         front : length (take (8 * i) (map means xs)) ≡ 8 * i
         front = omega (arith, length-take (8 * i) (map means xs), length-map xs means)

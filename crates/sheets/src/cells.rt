@@ -2,6 +2,7 @@
 ghost use mathlib.Core.Path.{_≡_};
 ghost use mathlib.Core.List.{map};
 ghost use Prim.Native.Nat.{_+_, _≤_};
+ghost use lib.ListN.{getD};
 ghost use Rattle.rates.specs.Kinds.{exact-size};
 ghost use Rattle.rates.specs.Many.{better-of};
 ghost use Rattle.sheets.specs.Places.{cell};
@@ -11,17 +12,23 @@ use rates::many::better_of_two;
 // A sheet has a row of 8 places for each of up to 8 edge terminals.
 pub(crate) const ROW: usize = 8;
 
-pub(crate) const SHEET: usize = 64;
+pub const SHEET: usize = 64;
+
+// The rate at a place of an area; none past its end.
+pub(crate) fn rate_at<R: Rate>(area: &[R], place: usize) -> R
+    ensures { λ r. ⌜ means r ≡ getD (map means (now (area .entry))) place (kind .none) ⌝ }
+{
+    if place >= area.len() {
+        return R::none();
+    }
+    area[place]
+}
 
 // The rate from the edge terminal i to the edge terminal j; none past the sheet's end.
 pub(crate) fn cell_at<R: Rate>(sheet: &[R], i: u8, j: u8) -> R
     ensures { λ r. ⌜ means r ≡ cell kind (map means (now (sheet .entry))) i j ⌝ }
 {
-    let place = ROW * i as usize + j as usize;
-    if place >= sheet.len() {
-        return R::none();
-    }
-    sheet[place]
+    rate_at(sheet, ROW * i as usize + j as usize)
 }
 
 // The better of a rate and two others joined; exact while the sizes of the two add up to little enough.

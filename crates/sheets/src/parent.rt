@@ -79,24 +79,44 @@ fn part_of(cut: Cut, edges: Few) -> Part
 fn to_seam<R: Rate>(own: &[R], other: &[R], i: u8, to: (u8, u8), round: (u8, u8)) -> R
     ensures { λ r. ⌜ (Within kind (map means (now (own .entry))) → Within kind (map means (now (other .entry))) → means r ≡ to-seam-at kind (map means (now (own .entry))) (map means (now (other .entry))) i to round) ⌝ }
 {
-    better_joined(cell_at(own, i, to.0), cell_at(own, i, round.0), cell_at(other, round.1, to.1))
+    better_joined(
+        cell_at(own, i, to.0),
+        cell_at(own, i, round.0),
+        cell_at(other, round.1, to.1),
+    )
 }
 
 // By either end of the seam, at the rates to them, and through a part to its edge terminal j.
 fn by_seam<R: Rate>(low: R, high: R, sheet: &[R], ends: (u8, u8), j: u8) -> R
     ensures { λ r. ⌜ (Within kind (map means (now (sheet .entry))) → kind .size (means low) ≤ 2 * largest → kind .size (means high) ≤ 2 * largest → means r ≡ by-seam-at kind (means low) (means high) (map means (now (sheet .entry))) ends j) ⌝ }
 {
-    better_joined(low.join(cell_at(sheet, ends.0, j)), high, cell_at(sheet, ends.1, j))
+    better_joined(
+        low.join(cell_at(sheet, ends.0, j)),
+        high,
+        cell_at(sheet, ends.1, j),
+    )
 }
 
 // The climb from the edge terminal i of the part p to the edge terminal k of the cut piece, given the rates to the seam's ends.
-fn climb_to<R: Rate>(own: &[R], other: &[R], p: Part, q: Part, low: R, high: R, i: u8, k: usize) -> R
+fn climb_to<R: Rate>(
+    own: &[R],
+    other: &[R],
+    p: Part,
+    q: Part,
+    low: R,
+    high: R,
+    i: u8,
+    k: usize,
+) -> R
     requires { ⌜ k < 8 ⌝ }
     ensures { λ r. ⌜ (Within kind (map means (now (own .entry))) → Within kind (map means (now (other .entry))) → kind .size (means low) ≤ 2 * largest → kind .size (means high) ≤ 2 * largest → means r ≡ climb-at kind p q (map means (now (own .entry))) (map means (now (other .entry))) (means low) (means high) i k) ⌝ }
 {
     let j = p.at[k];
     if j < p.count {
-        better_of_two(cell_at(own, i, j), by_seam(low, high, own, (p.low, p.high), j))
+        better_of_two(
+            cell_at(own, i, j),
+            by_seam(low, high, own, (p.low, p.high), j),
+        )
     } else {
         by_seam(low, high, other, (q.low, q.high), q.at[k])
     }

@@ -18,11 +18,12 @@ returns-then-divide-front c =
     let k = 2 * n - 5 + 2 - 0 in
     let is : k ≡ 2 * n - 3 = omega arith in
     let h = c .if-divide-front .ensures tt in
-    let lent : Lent n ss ps ts = record { least = omega arith; most = omega arith; sides = omega arith; pieces = omega arith; list = omega arith } in
-    (lent,
-     λ fl. front-divided n ss ps ts lent k is (c .divide-front .last .sides) (c .divide-front .last .pieces) fl (h .same)
-       (h .done n (fitting n ss ps ts lent k is (c .divide-front .last .sides) (c .divide-front .last .pieces) fl)),
-     kept n ss ps ts lent k is (c .divide-front .last .sides) (c .divide-front .last .pieces) (h .same) (h .past))
+    let lent : Lent n ss ps ts = record { least = omega arith; most = omega arith; sides = omega arith; pieces = omega arith; list = omega arith } in (
+      lent,
+      λ fl. front-divided n ss ps ts lent k is (c .divide-front .last .sides) (c .divide-front .last .pieces) fl (h .same)
+          (h .done n (fitting n ss ps ts lent k is (c .divide-front .last .sides) (c .divide-front .last .pieces) fl)),
+      kept n ss ps ts lent k is (c .divide-front .last .sides) (c .divide-front .last .pieces) (h .same) (h .past),
+    )
 
 pub returns-else-divide-front : need.returns-else-divide-front
 returns-else-divide-front c =
@@ -33,7 +34,8 @@ returns-else-divide-front c =
     let k = 2 * n - 5 + 2 - 0 in
     let is : k ≡ 2 * n - 3 = omega arith in
     let h = c .if-divide-front .ensures tt in
-    let lent : Lent n ss ps ts = record { least = omega arith; most = omega arith; sides = omega arith; pieces = omega arith; list = omega arith } in
-    (lent,
-     λ fl. true≢false (sym (h .done n (fitting n ss ps ts lent k is (c .divide-front .last .sides) (c .divide-front .last .pieces) fl) .answer)),
-     kept n ss ps ts lent k is (c .divide-front .last .sides) (c .divide-front .last .pieces) (h .same) (h .past))
+    let lent : Lent n ss ps ts = record { least = omega arith; most = omega arith; sides = omega arith; pieces = omega arith; list = omega arith } in (
+      lent,
+      λ fl. true≢false (sym (h .done n (fitting n ss ps ts lent k is (c .divide-front .last .sides) (c .divide-front .last .pieces) fl) .answer)),
+      kept n ss ps ts lent k is (c .divide-front .last .sides) (c .divide-front .last .pieces) (h .same) (h .past),
+    )

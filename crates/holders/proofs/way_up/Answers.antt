@@ -21,12 +21,12 @@ returns-in-None c =
     let one : most - k ≡ suc (most - (k + 1)) = omega arith in
     let so = ap (λ (f : ℕ). take k (c .loop-k .out) ++ wayUp ps f p) (sym one) ∙ c .loop-k .inv .0 in
     let w : Walked ps (c .args .from) (c .args .out .now) (k + 1) (set (c .loop-k .out) k p) =
-          record {
-            numbers = on-stop ps (c .loop-k .out) k p room (most - (k + 1)) (wayUp ps most (c .args .from)) stop so ∙ ap (λ (f : ℕ). wayUp ps f (c .args .from)) (c .min-most .ensures);
-            behind = behind-more ps (c .loop-k .out) k p room (c .args .out .now) (c .loop-k .inv .1);
-            inside = omega arith;
-            at-most = omega arith;
-          } in
+    record {
+      numbers = on-stop ps (c .loop-k .out) k p room (most - (k + 1)) (wayUp ps most (c .args .from)) stop so ∙ ap (λ (f : ℕ). wayUp ps f (c .args .from)) (c .min-most .ensures);
+      behind = behind-more ps (c .loop-k .out) k p room (c .args .out .now) (c .loop-k .inv .1);
+      inside = omega arith;
+      at-most = omega arith;
+    } in
     record { walked = w; complete = walked-up ps (c .args .from) (c .args .out .now) (k + 1) (set (c .loop-k .out) k p) w }
 
 pub loop-k-again : need.loop-k-again
@@ -38,9 +38,10 @@ loop-k-again c =
     let up = some-climbs (climbs ps p) (c .in-Some .parent) (pieceAt ps p .parent) (c .in-Some .ensures tt) in
     let room : k < length (c .loop-k .out) = omega arith in
     let one : most - k ≡ suc (most - (k + 1)) = omega arith in
-    let so = ap (λ (f : ℕ). take k (c .loop-k .out) ++ wayUp ps f p) (sym one) ∙ c .loop-k .inv .0 in
-    (on-more ps (c .loop-k .out) k p room (most - (k + 1)) (c .in-Some .parent) (wayUp ps most (c .args .from)) (up .0) (up .1) so,
-     behind-more ps (c .loop-k .out) k p room (c .args .out .now) (c .loop-k .inv .1))
+    let so = ap (λ (f : ℕ). take k (c .loop-k .out) ++ wayUp ps f p) (sym one) ∙ c .loop-k .inv .0 in (
+      on-more ps (c .loop-k .out) k p room (most - (k + 1)) (c .in-Some .parent) (wayUp ps most (c .args .from)) (up .0) (up .1) so,
+      behind-more ps (c .loop-k .out) k p room (c .args .out .now) (c .loop-k .inv .1),
+    )
 
 pub returns : need.returns
 returns c =
@@ -50,15 +51,15 @@ returns c =
     let at : k ≡ most = omega arith in
     let none : 0 ≡ most - k = omega arith in
     let w : Walked ps (c .args .from) (c .args .out .now) most (c .loop-k .out) =
-          record {
-            numbers =
-                ap (λ (m : ℕ). take m (c .loop-k .out)) (sym at)
-                ∙ sym (append-nil (take k (c .loop-k .out)))
-                ∙ ap (λ (f : ℕ). take k (c .loop-k .out) ++ wayUp ps f (c .loop-k .p)) none
-                ∙ c .loop-k .inv .0
-                ∙ ap (λ (f : ℕ). wayUp ps f (c .args .from)) (c .min-most .ensures);
-            behind = subst (λ (m : ℕ). drop m (c .loop-k .out) ≡ drop m (c .args .out .now)) at (c .loop-k .inv .1);
-            inside = omega arith;
-            at-most = omega arith;
-          } in
+    record {
+      numbers =
+          ap (λ (m : ℕ). take m (c .loop-k .out)) (sym at)
+          ∙ sym (append-nil (take k (c .loop-k .out)))
+          ∙ ap (λ (f : ℕ). take k (c .loop-k .out) ++ wayUp ps f (c .loop-k .p)) none
+          ∙ c .loop-k .inv .0
+          ∙ ap (λ (f : ℕ). wayUp ps f (c .args .from)) (c .min-most .ensures);
+      behind = subst (λ (m : ℕ). drop m (c .loop-k .out) ≡ drop m (c .args .out .now)) at (c .loop-k .inv .1);
+      inside = omega arith;
+      at-most = omega arith;
+    } in
     record { walked = w; complete = walked-up ps (c .args .from) (c .args .out .now) most (c .loop-k .out) w }

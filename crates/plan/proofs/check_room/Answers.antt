@@ -26,9 +26,9 @@ returns c links =
     let m = few-enough n areas links t in
     let z : min n 4096 ≡ n = omega arith in
     let given : ℕ → ℕ → List Area = λ s p.
-        record { needed = s; given = c .args .sides } ∷ (record { needed = p; given = c .args .pieces } ∷ (record { needed = todoCount; given = c .args .todo } ∷ [])) in
+    record { needed = s; given = c .args .sides } ∷ (record { needed = p; given = c .args .pieces } ∷ (record { needed = todoCount; given = c .args .todo } ∷ [])) in
     let e : given (c .side-count .result) (c .piece-count .result) ≡ areas =
-        ap (λ (s : ℕ). given s (c .piece-count .result)) (c .side-count .ensures ∙ ap sideCount z)
-        ∙ ap (given (sideCount n)) (c .piece-count .ensures ∙ ap pieceCount z) in
+    ap (λ (s : ℕ). given s (c .piece-count .result)) (c .side-count .ensures ∙ ap sideCount z)
+    ∙ ap (given (sideCount n)) (c .piece-count .ensures ∙ ap pieceCount z) in
     first-more (Condition n areas links) 0 1 2 (c .check-areas .result) (omega arith) t
     (subst (λ (a : List Area). FirstIn (Condition n a links) 1 2 (c .check-areas .result)) e (c .check-areas .ensures n links))

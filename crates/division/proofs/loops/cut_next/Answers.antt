@@ -29,9 +29,9 @@ returns c =
     let F = c .first-part-first .result in
     let first : F ≡ firstOf len p P = c .first-part-first .ensures ∙ ap (firstPart len p P) (c .seam-of-seam .ensures) in
     let made : c .parted .result ≡ cutRecord e p P =
-          c .parted .ensures
-          ∙ ap (λ (v : ℕ). parted e p P v (c .triangles-size .result)) (c .seam-of-seam .ensures)
-          ∙ ap (parted e p P (seamIn len P)) (c .triangles-size .ensures ∙ ap (size len) first) in
+    c .parted .ensures
+    ∙ ap (λ (v : ℕ). parted e p P v (c .triangles-size .result)) (c .seam-of-seam .ensures)
+    ∙ ap (parted e p P (seamIn len P)) (c .triangles-size .ensures ∙ ap (size len) first) in
     record {
       turn = turn-cut e p (c .args .pieces .now) (c .args .todo .now .items .now) (c .args .todo .now .len) P
           (c .pop .last .self .len) (c .pop .last .self .items .now) (o .popped)

@@ -14,17 +14,21 @@ use Rattle.division.proofs.loops.cut_pieces.Needs as need
 pub loop-p-holds : need.loop-p-holds
 loop-p-holds c =
     let put = pushed-ok (c .push .result) (c .new-waiting .result .len) (c .new-waiting .result .items .now) (c .whole .result) (c .push .last .self .len) (c .push .last .self .items .now)
-          (c .if-is-err .ensures tt .value) (c .push .ensures .pushed) in
-    (refl, λ n f. (f .list-room,
-      begun n (endsOf (c .args .sides .now)) (f .filled) (c .args .pieces .now) (c .new-waiting .result .items .now) (c .new-waiting .result .len) (c .whole .result) (c .push .last .self .len) (c .push .last .self .items .now)
-      (c .new-waiting .ensures .empty) (c .whole .ensures) put))
+    (c .if-is-err .ensures tt .value) (c .push .ensures .pushed) in (
+      refl,
+      λ n f. (
+        f .list-room,
+        begun n (endsOf (c .args .sides .now)) (f .filled) (c .args .pieces .now) (c .new-waiting .result .items .now) (c .new-waiting .result .len) (c .whole .result) (c .push .last .self .len) (c .push .last .self .items .now)
+            (c .new-waiting .ensures .empty) (c .whole .ensures) put,
+      ),
+    )
 
 pub returns-then-not-cut-next : need.returns-then-not-cut-next
 returns-then-not-cut-next c =
     let e = endsOf (c .args .sides .now) in
     let t = c .if-not-cut-next .ensures tt .turn in
     let put = pushed-ok (c .push .result) (c .new-waiting .result .len) (c .new-waiting .result .items .now) (c .whole .result) (c .push .last .self .len) (c .push .last .self .items .now)
-          (c .if-is-err .ensures tt .value) (c .push .ensures .pushed) in
+    (c .if-is-err .ensures tt .value) (c .push .ensures .pushed) in
     record {
       cut = λ n f.
           let g = refit n e (c .args .count) (c .args .pieces .now) (c .new-waiting .result .items .now) (c .args .todo .now) (c .new-waiting .result .len) (c .whole .result) (c .push .last .self .len) (c .push .last .self .items .now) (c .new-waiting .ensures .same) put f in
@@ -37,18 +41,19 @@ returns-then-not-cut-next c =
 pub loop-p-again : need.loop-p-again
 loop-p-again c =
     let e = endsOf (c .args .sides .now) in
-    let t = c .if-not-cut-next .ensures tt .turn in
-    (past-turn e (c .loop-p .p) (c .args .count) (c .loop-p .pieces) (c .loop-p .waiting .items .now) (c .loop-p .waiting .len) _ _ _ _ t (c .loop-p-test .taken) ∙ c .loop-p .inv .0,
-     λ n f.
-       let u = c .loop-p .inv .1 n f in
-       let r = turned n e (f .filled) (c .loop-p .p) (c .loop-p .pieces) (c .loop-p .waiting .items .now) (c .loop-p .waiting .len) _ _ _ _ t (omega (arith, f .pieces)) (omega (arith, f .room)) (u .0) (u .1) in
-       (r .1, r .2))
+    let t = c .if-not-cut-next .ensures tt .turn in (
+      past-turn e (c .loop-p .p) (c .args .count) (c .loop-p .pieces) (c .loop-p .waiting .items .now) (c .loop-p .waiting .len) _ _ _ _ t (c .loop-p-test .taken) ∙ c .loop-p .inv .0,
+      λ n f.
+          let u = c .loop-p .inv .1 n f in
+          let r = turned n e (f .filled) (c .loop-p .p) (c .loop-p .pieces) (c .loop-p .waiting .items .now) (c .loop-p .waiting .len) _ _ _ _ t (omega (arith, f .pieces)) (omega (arith, f .room)) (u .0) (u .1) in
+          (r .1, r .2),
+    )
 
 pub returns : need.returns
 returns c =
     let e = endsOf (c .args .sides .now) in
     let put = pushed-ok (c .push .result) (c .new-waiting .result .len) (c .new-waiting .result .items .now) (c .whole .result) (c .push .last .self .len) (c .push .last .self .items .now)
-          (c .if-is-err .ensures tt .value) (c .push .ensures .pushed) in
+    (c .if-is-err .ensures tt .value) (c .push .ensures .pushed) in
     record {
       cut = λ n f.
           let g = refit n e (c .args .count) (c .args .pieces .now) (c .new-waiting .result .items .now) (c .args .todo .now) (c .new-waiting .result .len) (c .whole .result) (c .push .last .self .len) (c .push .last .self .items .now) (c .new-waiting .ensures .same) put f in

@@ -12,4 +12,4 @@ abbrev pub Inv-loop-k : given.InvT-loop-k
 Inv-loop-k g l =
     Within (g .R·Rate .kind) (map (g .R·Rate .means) (l .own)) → Within (g .R·Rate .kind) (map (g .R·Rate .means) (l .other))
     → (k : ℕ) → k < l .k → getD (map (g .R·Rate .means) (l .row)) k (g .R·Rate .kind .none)
-      ≡ cond (ltb k (l .count)) (climbed-at (g .R·Rate .kind) (l .p) (l .q) (map (g .R·Rate .means) (l .own)) (map (g .R·Rate .means) (l .other)) (l .i) k) (g .R·Rate .kind .none)
+    ≡ cond (ltb k (l .count)) (climbed-at (g .R·Rate .kind) (l .p) (l .q) (map (g .R·Rate .means) (l .own)) (map (g .R·Rate .means) (l .other)) (l .i) k) (g .R·Rate .kind .none)
