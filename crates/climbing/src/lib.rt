@@ -1,5 +1,7 @@
 // Lines of best rates between a terminal and a piece's edge terminals: why they climb from a piece to its parent and meet there.
 // Each function's contract is a theorem that layers above cite.
+#![tactic(auto)]
+
 ghost use Rattle.climbing.specs.Lines.{LinesAreWithin, LinesClimb, LinesMeet, SheetsHaveLines, TrianglesHaveLines};
 ghost use Rattle.climbing.specs.Steps.{PartedBetweenChildren, StepsKeep};
 ghost use Rattle.climbing.specs.Ways.{WaysDown, WaysPart, WaysUp};
@@ -8,17 +10,17 @@ use rates::kind::Rate;
 
 // A line climbed over a seam shows the best rates over both parts; two lines give the best rate between their terminals.
 pub fn lines_climb<R: Rate>() -> u8
-    ensures climb { LinesClimb kind }
-    ensures meet { LinesMeet kind }
-    ensures within { LinesAreWithin kind }
+    ensures climb { LinesClimb R.kind }
+    ensures meet { LinesMeet R.kind }
+    ensures within { LinesAreWithin R.kind }
 {
     0
 }
 
 // The rows and columns of a sheet are lines, and so are the best rates within a triangle.
 pub fn lines_begin<R: Rate>() -> u8
-    ensures sheets { SheetsHaveLines kind }
-    ensures triangles { TrianglesHaveLines kind }
+    ensures sheets { SheetsHaveLines R.kind }
+    ensures triangles { TrianglesHaveLines R.kind }
 {
     0
 }
@@ -35,7 +37,7 @@ pub fn ways_found() -> u8
 
 // In a plan in order, lines climb from each piece to its parent and meet there.
 pub fn steps_keep<R: Rate>() -> u8
-    ensures { StepsKeep kind }
+    ensures { StepsKeep R.kind }
 {
     0
 }

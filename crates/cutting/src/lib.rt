@@ -1,5 +1,7 @@
 // Cutting one piece: its seam, its two parts and its finished record. Nothing here writes to an area.
 // Every function has a value on side records of any content; what the values mean on a filled ring is said in `pieces`.
+#![tactic(auto)]
+
 mod parts;
 mod seam;
 mod sides;

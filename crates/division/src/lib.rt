@@ -1,4 +1,6 @@
 // The whole division: all pieces are cut, and every side is told its leaf piece.
+#![tactic(auto)]
+
 ghost use Rattle.std.specs.Prelude.{◌≡◌, ℕ, drop};
 ghost use Rattle.division.specs.Outcome.{FrontDone, Outcome, SameSidesSameRecords};
 ghost use Rattle.division.specs.Turns.{Fitting};

@@ -1,4 +1,6 @@
 // The pieces that hold a lane: its leaf piece and those above it. Records of any content are walked safely and in few steps.
+#![tactic(auto)]
+
 ghost use Rattle.std.specs.Prelude.{◌≡◌, ℕ, ◌+◌, ◌*◌, ◌<◌, ◌≤◌, length, take, drop, if◌then◌else◌, Some, None};
 ghost use Rattle.holders.specs.Walks.{Walked};
 ghost use Rattle.pieces.specs.Division.{Division, LeavesMarked};

@@ -19,7 +19,7 @@ pub enum Refusal {
 
 // The place of the first rate that no lane may have.
 fn first_no_lane_rate<R: Rate>(lanes: &[R]) -> Option<usize>
-    ensures { Found kind (map means lanes.now) result }
+    ensures { Found R.kind (map R.means lanes.now) result }
 {
     for (i, rate) in lanes.iter().enumerate() {
         if !rate.is_lane_rate() {
@@ -31,7 +31,7 @@ fn first_no_lane_rate<R: Rate>(lanes: &[R]) -> Option<usize>
 
 // The rate of a trip over these lanes: their rates joined.
 pub fn price<R: Rate>(lanes: &[R]) -> Result<R, Refusal>
-    ensures { Priced kind means (map means lanes.now) result }
+    ensures { Priced R.kind R.means (map R.means lanes.now) result }
 {
     if lanes.is_empty() {
         return Err(Refusal::Empty);

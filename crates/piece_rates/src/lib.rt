@@ -1,5 +1,7 @@
 // Best rates within the pieces of a plan: what a sheet shows, and why a leaf's sheet follows from its lanes and a parent's
 // from its children's. Each function's contract is a theorem that layers above cite.
+#![tactic(auto)]
+
 ghost use Rattle.piece_rates.specs.Division.{CutsHaveShape};
 ghost use Rattle.piece_rates.specs.Leaves.{LeafShows};
 ghost use Rattle.piece_rates.specs.Parents.{ParentShows, ShownIsWithin};
@@ -15,15 +17,15 @@ pub fn cuts_have_shape() -> u8
 
 // The climbs over two parts' sheets that show their best rates show the best rates of the whole; no rate in them is too large.
 pub fn parents_show<R: Rate>() -> u8
-    ensures shows { ParentShows kind }
-    ensures within { ShownIsWithin kind }
+    ensures shows { ParentShows R.kind }
+    ensures within { ShownIsWithin R.kind }
 {
     0
 }
 
 // A leaf's sheet from the lanes of its triangle shows the leaf's best rates.
 pub fn leaves_show<R: Rate>() -> u8
-    ensures { LeafShows kind }
+    ensures { LeafShows R.kind }
 {
     0
 }

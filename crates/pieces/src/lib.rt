@@ -1,4 +1,6 @@
 // The theory of cutting a filled ring into pieces, without code: each function carries a theorem in its contract.
+#![tactic(auto)]
+
 ghost use Rattle.pieces.specs.Geometry.{SeamsPartLanes};
 ghost use Rattle.pieces.specs.Holders.{HoldersOnWayUp, WayUpComplete};
 ghost use Rattle.pieces.specs.Statements.{OneListOfRecords, RecordsDivide};

@@ -1,4 +1,6 @@
 // A plan laid out: checked, its ring filled to triangles, and the triangles divided into pieces.
+#![tactic(auto)]
+
 ghost use Rattle.std.specs.Prelude.{◌≡◌, min, List, length};
 ghost use Rattle.ring.specs.Faults.{Condition, First, FirstIn, most};
 ghost use Rattle.plan.specs.Layout.{EqualPlansDivideAlike, Leaves, lent, piece_count};

@@ -1,5 +1,7 @@
 // Lays out one plan, for counting instructions. Arguments: a shape; `shuffled` for links in no order; `large` for 4,096 terminals;
 // `idle` to make the plan and stop.
+#![tactic(auto)]
+
 use cutting::whole;
 use division::TODO_PIECES;
 use plan::{lay_out, piece_count};

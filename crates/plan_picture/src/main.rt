@@ -1,4 +1,6 @@
 // Reads plans from standard input and prints a picture of each, as SVG.
+#![tactic(auto)]
+
 use plan_text::{View, report};
 use std::io;
 

@@ -1,4 +1,6 @@
 // Reads plans from standard input and prints the division of each; with the argument `picture`, a picture of each.
+#![tactic(auto)]
+
 use plan_text::{View, report};
 use std::{env, io};
 

@@ -1,4 +1,6 @@
 // A plan's division as text for a person, and as a picture.
+#![tactic(auto)]
+
 mod commands;
 mod laid;
 mod page;

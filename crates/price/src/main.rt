@@ -1,4 +1,6 @@
 // Prices offered trips, read from standard input, and prints a table for a clerk.
+#![tactic(auto)]
+
 mod report;
 
 use std::io;

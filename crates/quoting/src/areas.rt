@@ -21,7 +21,7 @@ pub struct Areas<'a, R> {
 
 // The rate in the sheet of the piece p at the row i and the column j; none past the end of the sheet.
 fn sheet_rate<R: Rate>(sheets: &[R], p: u16, i: u8, j: u8) -> R
-    ensures { means result ≡ cells kind (sheet_of kind (map means sheets.now) p) i j }
+    ensures { R.means result ≡ cells R.kind (sheet_of R.kind (map R.means sheets.now) p) i j }
 {
     let k = 8 * i as usize + j as usize;
     if k >= SHEET {
@@ -32,7 +32,7 @@ fn sheet_rate<R: Rate>(sheets: &[R], p: u16, i: u8, j: u8) -> R
 
 // The rate in the sheet of the piece p at the row i and the column j; with `into`, at the row j and the column i.
 pub(crate) fn cell_of<R: Rate>(sheets: &[R], p: u16, into: bool, i: u8, j: u8) -> R
-    ensures { means result ≡ cell_at kind (map means sheets.now) p into i j }
+    ensures { R.means result ≡ cell_at R.kind (map R.means sheets.now) p into i j }
 {
     if into {
         sheet_rate(sheets, p, j, i)

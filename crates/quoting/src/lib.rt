@@ -1,4 +1,6 @@
 // The best rate between two terminals of a plan, by climbing from small pieces to larger ones.
+#![tactic(auto)]
+
 mod areas;
 mod lines;
 mod passes;

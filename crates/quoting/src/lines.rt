@@ -38,7 +38,7 @@ pub struct Line<R> {
 
 // The rate at a place of a line; none past its end.
 fn line_rate<R: Rate>(line: Line<R>, k: u8) -> R
-    ensures { means result ≡ slice_index_or (shown means line) k kind.none }
+    ensures { R.means result ≡ slice_index_or (shown R.means line) k R.kind.none }
 {
     match k {
         0 => line.r0,
@@ -55,7 +55,7 @@ fn line_rate<R: Rate>(line: Line<R>, k: u8) -> R
 
 // The row i of the sheet of the piece p; with `into`, its column i.
 fn sheet_line<R: Rate>(sheets: &[R], p: u16, into: bool, i: u8) -> Line<R>
-    ensures { (k : ℕ) → k < 8 → slice_index_or (shown means result) k kind.none ≡ cell_at kind (map means sheets.now) p into i k }
+    ensures { (k : ℕ) → k < 8 → slice_index_or (shown R.means result) k R.kind.none ≡ cell_at R.kind (map R.means sheets.now) p into i k }
 {
     Line {
         r0: cell_of(sheets, p, into, i, 0),
@@ -71,7 +71,7 @@ fn sheet_line<R: Rate>(sheets: &[R], p: u16, into: bool, i: u8) -> Line<R>
 
 // The best rate within a triangle from u to v; with `into`, from v to u.
 fn triangle_rate<R: Rate>(t: Triangle<R>, into: bool, u: u16, v: u16) -> R
-    ensures { LanesWithin kind (corner_lanes kind t.low t.third t.high (means t.left.up) (means t.left.down) (means t.right.up) (means t.right.down) (means t.base.up) (means t.base.down)) → means result ≡ turned into (triangle_entry kind t.low t.third t.high (corner_lanes kind t.low t.third t.high (means t.left.up) (means t.left.down) (means t.right.up) (means t.right.down) (means t.base.up) (means t.base.down))) u v }
+    ensures { LanesWithin R.kind (corner_lanes R.kind t.low t.third t.high (R.means t.left.up) (R.means t.left.down) (R.means t.right.up) (R.means t.right.down) (R.means t.base.up) (R.means t.base.down)) → R.means result ≡ turned into (triangle_entry R.kind t.low t.third t.high (corner_lanes R.kind t.low t.third t.high (R.means t.left.up) (R.means t.left.down) (R.means t.right.up) (R.means t.right.down) (R.means t.base.up) (R.means t.base.down))) u v }
 {
     if into {
         leaf_entry(t, v, u)
@@ -82,7 +82,7 @@ fn triangle_rate<R: Rate>(t: Triangle<R>, into: bool, u: u16, v: u16) -> R
 
 // The best rate within a triangle between u and the edge terminal k; none past the last.
 fn triangle_place<R: Rate>(t: Triangle<R>, edges: Few, into: bool, u: u16, k: usize) -> R
-    ensures { LanesWithin kind (corner_lanes kind t.low t.third t.high (means t.left.up) (means t.left.down) (means t.right.up) (means t.right.down) (means t.base.up) (means t.base.down)) → means result ≡ (if nat_lt k (length (listed edges)) then turned into (triangle_entry kind t.low t.third t.high (corner_lanes kind t.low t.third t.high (means t.left.up) (means t.left.down) (means t.right.up) (means t.right.down) (means t.base.up) (means t.base.down))) u (slice_index (listed edges) k) else kind.none) }
+    ensures { LanesWithin R.kind (corner_lanes R.kind t.low t.third t.high (R.means t.left.up) (R.means t.left.down) (R.means t.right.up) (R.means t.right.down) (R.means t.base.up) (R.means t.base.down)) → R.means result ≡ (if nat_lt k (length (listed edges)) then turned into (triangle_entry R.kind t.low t.third t.high (corner_lanes R.kind t.low t.third t.high (R.means t.left.up) (R.means t.left.down) (R.means t.right.up) (R.means t.right.down) (R.means t.base.up) (R.means t.base.down))) u (slice_index (listed edges) k) else R.kind.none) }
 {
     if k < edges.len() {
         triangle_rate(t, into, u, edges.get(k))
@@ -93,7 +93,7 @@ fn triangle_place<R: Rate>(t: Triangle<R>, edges: Few, into: bool, u: u16, k: us
 
 // The best rates within a triangle between the terminal u and edge terminals.
 fn triangle_line<R: Rate>(t: Triangle<R>, edges: Few, into: bool, u: u16) -> Line<R>
-    ensures { LanesWithin kind (corner_lanes kind t.low t.third t.high (means t.left.up) (means t.left.down) (means t.right.up) (means t.right.down) (means t.base.up) (means t.base.down)) → (k : ℕ) → k < 8 → slice_index_or (shown means result) k kind.none ≡ (if nat_lt k (length (listed edges)) then turned into (triangle_entry kind t.low t.third t.high (corner_lanes kind t.low t.third t.high (means t.left.up) (means t.left.down) (means t.right.up) (means t.right.down) (means t.base.up) (means t.base.down))) u (slice_index (listed edges) k) else kind.none) }
+    ensures { LanesWithin R.kind (corner_lanes R.kind t.low t.third t.high (R.means t.left.up) (R.means t.left.down) (R.means t.right.up) (R.means t.right.down) (R.means t.base.up) (R.means t.base.down)) → (k : ℕ) → k < 8 → slice_index_or (shown R.means result) k R.kind.none ≡ (if nat_lt k (length (listed edges)) then turned into (triangle_entry R.kind t.low t.third t.high (corner_lanes R.kind t.low t.third t.high (R.means t.left.up) (R.means t.left.down) (R.means t.right.up) (R.means t.right.down) (R.means t.base.up) (R.means t.base.down))) u (slice_index (listed edges) k) else R.kind.none) }
 {
     Line {
         r0: triangle_place(t, edges, into, u, 0),
@@ -109,7 +109,7 @@ fn triangle_line<R: Rate>(t: Triangle<R>, edges: Few, into: bool, u: u16) -> Lin
 
 // The line of the terminal u at a piece that has it as an edge terminal or is a single triangle.
 fn first_line<R: Rate>(areas: Areas<'_, R>, p: u16, into: bool, u: u16) -> Line<R>
-    ensures { (n : ℕ) (m : LaneMap Member) → InOrder kind n m areas.entry.sides.now areas.entry.pieces.now (map means areas.entry.lanes.now) (map means areas.entry.sheets.now) → p + 5 < 2 * n → ((piece_at areas.entry.pieces.now p).first ≡ 0) ⊎ Among u (listed (piece_at areas.entry.pieces.now p).edges) → LineShows kind n (ends_of areas.entry.sides.now) (piece_at areas.entry.pieces.now p) m into u (shown means result) }
+    ensures { (n : ℕ) (m : LaneMap Member) → InOrder R.kind n m areas.entry.sides.now areas.entry.pieces.now (map R.means areas.entry.lanes.now) (map R.means areas.entry.sheets.now) → p + 5 < 2 * n → ((piece_at areas.entry.pieces.now p).first ≡ 0) ⊎ Among u (listed (piece_at areas.entry.pieces.now p).edges) → LineShows R.kind n (ends_of areas.entry.sides.now) (piece_at areas.entry.pieces.now p) m into u (shown R.means result) }
 {
     let piece = piece_at(areas.pieces, p);
     let i = place_of(piece.edges, u);
@@ -135,7 +135,7 @@ pub(crate) fn to_end<R: Rate>(
     to: (u8, u8),
     round: (u8, u8),
 ) -> R
-    ensures { Within kind (shown means line) → Within kind (sheet_of kind (map means sheets.now) q) → means result ≡ to_end_at kind (shown means line) (map means sheets.now) q into to round }
+    ensures { Within R.kind (shown R.means line) → Within R.kind (sheet_of R.kind (map R.means sheets.now) q) → R.means result ≡ to_end_at R.kind (shown R.means line) (map R.means sheets.now) q into to round }
 {
     better_joined(
         line_rate(line, to.0),
@@ -146,7 +146,7 @@ pub(crate) fn to_end<R: Rate>(
 
 // By either end of the seam, at the rates to them, and on through a piece beside it to its edge terminal k.
 fn by_ends<R: Rate>(low: R, high: R, sheets: &[R], half: Half, into: bool, k: u8) -> R
-    ensures { Within kind (sheet_of kind (map means sheets.now) half.piece) → kind.size (means low) ≤ 2 * largest → kind.size (means high) ≤ 2 * largest → means result ≡ by_ends_at kind (means low) (means high) (map means sheets.now) half into k }
+    ensures { Within R.kind (sheet_of R.kind (map R.means sheets.now) half.piece) → R.kind.size (R.means low) ≤ 2 * largest → R.kind.size (R.means high) ≤ 2 * largest → R.means result ≡ by_ends_at R.kind (R.means low) (R.means high) (map R.means sheets.now) half into k }
 {
     better_joined(
         low.join(cell_of(sheets, half.piece, into, half.low, k)),
@@ -157,7 +157,7 @@ fn by_ends<R: Rate>(low: R, high: R, sheets: &[R], half: Half, into: bool, k: u8
 
 // By either end of the seam, at the rates to them, and on by a line at a piece beside it.
 pub(crate) fn by_line<R: Rate>(low: R, high: R, half: Half, line: Line<R>) -> R
-    ensures { Within kind (shown means line) → kind.size (means low) ≤ 2 * largest → kind.size (means high) ≤ 2 * largest → means result ≡ by_line_at kind (means low) (means high) half (shown means line) }
+    ensures { Within R.kind (shown R.means line) → R.kind.size (R.means low) ≤ 2 * largest → R.kind.size (R.means high) ≤ 2 * largest → R.means result ≡ by_line_at R.kind (R.means low) (R.means high) half (shown R.means line) }
 {
     better_joined(
         low.join(line_rate(line, half.low)),
@@ -176,7 +176,7 @@ fn climb_rate<R: Rate>(
     high: R,
     t: u16,
 ) -> R
-    ensures { Within kind (sheet_of kind (map means sheets.now) step.own.piece) → Within kind (sheet_of kind (map means sheets.now) step.across.piece) → kind.size (means low) ≤ 2 * largest → kind.size (means high) ≤ 2 * largest → means result ≡ climb_at kind (shown means line) (map means sheets.now) step into (means low) (means high) t }
+    ensures { Within R.kind (sheet_of R.kind (map R.means sheets.now) step.own.piece) → Within R.kind (sheet_of R.kind (map R.means sheets.now) step.across.piece) → R.kind.size (R.means low) ≤ 2 * largest → R.kind.size (R.means high) ≤ 2 * largest → R.means result ≡ climb_at R.kind (shown R.means line) (map R.means sheets.now) step into (R.means low) (R.means high) t }
 {
     let k = place_of(step.own.edges, t);
     if (k as usize) < step.own.edges.len() {
@@ -206,7 +206,7 @@ fn climb_place<R: Rate>(
     high: R,
     k: usize,
 ) -> R
-    ensures { Within kind (sheet_of kind (map means sheets.now) step.own.piece) → Within kind (sheet_of kind (map means sheets.now) step.across.piece) → kind.size (means low) ≤ 2 * largest → kind.size (means high) ≤ 2 * largest → means result ≡ (if nat_lt k (length (listed step.edges)) then climb_at kind (shown means line) (map means sheets.now) step into (means low) (means high) (slice_index (listed step.edges) k) else kind.none) }
+    ensures { Within R.kind (sheet_of R.kind (map R.means sheets.now) step.own.piece) → Within R.kind (sheet_of R.kind (map R.means sheets.now) step.across.piece) → R.kind.size (R.means low) ≤ 2 * largest → R.kind.size (R.means high) ≤ 2 * largest → R.means result ≡ (if nat_lt k (length (listed step.edges)) then climb_at R.kind (shown R.means line) (map R.means sheets.now) step into (R.means low) (R.means high) (slice_index (listed step.edges) k) else R.kind.none) }
 {
     if k < step.edges.len() {
         climb_rate(step, sheets, into, line, low, high, step.edges.get(k))
@@ -217,7 +217,7 @@ fn climb_place<R: Rate>(
 
 // The line of the piece climbed to.
 pub(crate) fn climb<R: Rate>(step: Step, sheets: &[R], into: bool, line: Line<R>) -> Line<R>
-    ensures { Within kind (shown means line) → Within kind (sheet_of kind (map means sheets.now) step.own.piece) → Within kind (sheet_of kind (map means sheets.now) step.across.piece) → (k : ℕ) → k < 8 → slice_index_or (shown means result) k kind.none ≡ climbed_at kind (shown means line) (map means sheets.now) step into k }
+    ensures { Within R.kind (shown R.means line) → Within R.kind (sheet_of R.kind (map R.means sheets.now) step.own.piece) → Within R.kind (sheet_of R.kind (map R.means sheets.now) step.across.piece) → (k : ℕ) → k < 8 → slice_index_or (shown R.means result) k R.kind.none ≡ climbed_at R.kind (shown R.means line) (map R.means sheets.now) step into k }
 {
     let q = step.across.piece;
     let x = (step.own.low, step.across.low);
@@ -244,7 +244,7 @@ fn climb_to<R: Rate>(
     into: bool,
     line: Line<R>,
 ) -> Line<R>
-    ensures { (n : ℕ) (m : LaneMap Member) (u : ℕ) → InOrder kind n m areas.entry.sides.now areas.entry.pieces.now (map means areas.entry.lanes.now) (map means areas.entry.sheets.now) → Reaches n (ends_of areas.entry.sides.now) areas.entry.pieces.now stop u from → LineShows kind n (ends_of areas.entry.sides.now) (piece_at areas.entry.pieces.now from) m into u (shown means line) → LineShows kind n (ends_of areas.entry.sides.now) (piece_at areas.entry.pieces.now stop) m into u (shown means result) }
+    ensures { (n : ℕ) (m : LaneMap Member) (u : ℕ) → InOrder R.kind n m areas.entry.sides.now areas.entry.pieces.now (map R.means areas.entry.lanes.now) (map R.means areas.entry.sheets.now) → Reaches n (ends_of areas.entry.sides.now) areas.entry.pieces.now stop u from → LineShows R.kind n (ends_of areas.entry.sides.now) (piece_at areas.entry.pieces.now from) m into u (shown R.means line) → LineShows R.kind n (ends_of areas.entry.sides.now) (piece_at areas.entry.pieces.now stop) m into u (shown R.means result) }
 {
     let mut p = from;
     let mut reached = line;
@@ -261,7 +261,7 @@ fn climb_to<R: Rate>(
 
 // The line of the terminal u at the piece p.
 pub(crate) fn line_at<R: Rate>(areas: Areas<'_, R>, p: u16, into: bool, u: u16) -> Line<R>
-    ensures { (n : ℕ) (m : LaneMap Member) → InOrder kind n m areas.entry.sides.now areas.entry.pieces.now (map means areas.entry.lanes.now) (map means areas.entry.sheets.now) → p + 5 < 2 * n → Touches n (ends_of areas.entry.sides.now) (piece_at areas.entry.pieces.now p) u → LineShows kind n (ends_of areas.entry.sides.now) (piece_at areas.entry.pieces.now p) m into u (shown means result) }
+    ensures { (n : ℕ) (m : LaneMap Member) → InOrder R.kind n m areas.entry.sides.now areas.entry.pieces.now (map R.means areas.entry.lanes.now) (map R.means areas.entry.sheets.now) → p + 5 < 2 * n → Touches n (ends_of areas.entry.sides.now) (piece_at areas.entry.pieces.now p) u → LineShows R.kind n (ends_of areas.entry.sides.now) (piece_at areas.entry.pieces.now p) m into u (shown R.means result) }
 {
     let start = start_below(areas.sides, areas.pieces, p, u);
     climb_to(areas, start, p, into, first_line(areas, start, into, u))

@@ -23,7 +23,7 @@ use sheets::{leaf_entry, piece_at, place_of, triangle_on};
 
 // From one terminal to another by the seam, where the second line is at a piece beside it.
 fn by_seam<R: Rate>(step: Step, sheets: &[R], row: Line<R>, there: Half, column: Line<R>) -> R
-    ensures { Within kind (shown means row) → Within kind (shown means column) → Within kind (sheet_of kind (map means sheets.now) step.across.piece) → means result ≡ by_seam_at kind (shown means row) (map means sheets.now) step there (shown means column) }
+    ensures { Within R.kind (shown R.means row) → Within R.kind (shown R.means column) → Within R.kind (sheet_of R.kind (map R.means sheets.now) step.across.piece) → R.means result ≡ by_seam_at R.kind (shown R.means row) (map R.means sheets.now) step there (shown R.means column) }
 {
     let q = step.across.piece;
     let x = (step.own.low, step.across.low);
@@ -43,7 +43,7 @@ fn pass_to<R: Rate>(
     last: Line<R>,
     known: R,
 ) -> R
-    ensures { (n : ℕ) (m : LaneMap Member) (u v : ℕ) → InOrder kind n m areas.entry.sides.now areas.entry.pieces.now (map means areas.entry.lanes.now) (map means areas.entry.sheets.now) → Reaches n (ends_of areas.entry.sides.now) areas.entry.pieces.now stop u from → Reaches n (ends_of areas.entry.sides.now) areas.entry.pieces.now stop v from → LineShows kind n (ends_of areas.entry.sides.now) (piece_at areas.entry.pieces.now from) m false u (shown means first) → LineShows kind n (ends_of areas.entry.sides.now) (piece_at areas.entry.pieces.now from) m true v (shown means last) → BestRate kind (lanes_of kind n (ends_of areas.entry.sides.now) areas.entry.pieces.now m from) u v (means known) → BestRate kind (lanes_of kind n (ends_of areas.entry.sides.now) areas.entry.pieces.now m stop) u v (means result) }
+    ensures { (n : ℕ) (m : LaneMap Member) (u v : ℕ) → InOrder R.kind n m areas.entry.sides.now areas.entry.pieces.now (map R.means areas.entry.lanes.now) (map R.means areas.entry.sheets.now) → Reaches n (ends_of areas.entry.sides.now) areas.entry.pieces.now stop u from → Reaches n (ends_of areas.entry.sides.now) areas.entry.pieces.now stop v from → LineShows R.kind n (ends_of areas.entry.sides.now) (piece_at areas.entry.pieces.now from) m false u (shown R.means first) → LineShows R.kind n (ends_of areas.entry.sides.now) (piece_at areas.entry.pieces.now from) m true v (shown R.means last) → BestRate R.kind (lanes_of R.kind n (ends_of areas.entry.sides.now) areas.entry.pieces.now m from) u v (R.means known) → BestRate R.kind (lanes_of R.kind n (ends_of areas.entry.sides.now) areas.entry.pieces.now m stop) u v (R.means result) }
 {
     let mut p = from;
     let mut row = first;
@@ -64,7 +64,7 @@ fn pass_to<R: Rate>(
 
 // The best rate within a piece that has both terminals as edge terminals or is a single triangle.
 fn near_rate<R: Rate>(areas: Areas<'_, R>, p: u16, from: u16, to: u16) -> R
-    ensures { (n : ℕ) (m : LaneMap Member) → InOrder kind n m areas.entry.sides.now areas.entry.pieces.now (map means areas.entry.lanes.now) (map means areas.entry.sheets.now) → p + 5 < 2 * n → Ending (piece_at areas.entry.pieces.now p) from to → BestRate kind (lanes_of kind n (ends_of areas.entry.sides.now) areas.entry.pieces.now m p) from to (means result) }
+    ensures { (n : ℕ) (m : LaneMap Member) → InOrder R.kind n m areas.entry.sides.now areas.entry.pieces.now (map R.means areas.entry.lanes.now) (map R.means areas.entry.sheets.now) → p + 5 < 2 * n → Ending (piece_at areas.entry.pieces.now p) from to → BestRate R.kind (lanes_of R.kind n (ends_of areas.entry.sides.now) areas.entry.pieces.now m p) from to (R.means result) }
 {
     let piece = piece_at(areas.pieces, p);
     if both_on_edge(piece, from, to) {
@@ -82,7 +82,7 @@ fn near_rate<R: Rate>(areas: Areas<'_, R>, p: u16, from: u16, to: u16) -> R
 
 // The best rate at the piece `stop`, by way of a piece below it at which the way down towards both terminals ends.
 fn joined_rate<R: Rate>(areas: Areas<'_, R>, p: u16, stop: u16, from: u16, to: u16) -> R
-    ensures { (n : ℕ) (m : LaneMap Member) → InOrder kind n m areas.entry.sides.now areas.entry.pieces.now (map means areas.entry.lanes.now) (map means areas.entry.sheets.now) → Parts n (ends_of areas.entry.sides.now) areas.entry.pieces.now stop from to p → Ending (piece_at areas.entry.pieces.now p) from to → BestRate kind (lanes_of kind n (ends_of areas.entry.sides.now) areas.entry.pieces.now m stop) from to (means result) }
+    ensures { (n : ℕ) (m : LaneMap Member) → InOrder R.kind n m areas.entry.sides.now areas.entry.pieces.now (map R.means areas.entry.lanes.now) (map R.means areas.entry.sheets.now) → Parts n (ends_of areas.entry.sides.now) areas.entry.pieces.now stop from to p → Ending (piece_at areas.entry.pieces.now p) from to → BestRate R.kind (lanes_of R.kind n (ends_of areas.entry.sides.now) areas.entry.pieces.now m stop) from to (R.means result) }
 {
     let known = near_rate(areas, p, from, to);
     if p == stop {
@@ -95,7 +95,7 @@ fn joined_rate<R: Rate>(areas: Areas<'_, R>, p: u16, stop: u16, from: u16, to: u
 
 // The best rate at the piece `stop`, by way of a piece below it that is parted between the two terminals.
 fn parted_rate<R: Rate>(areas: Areas<'_, R>, p: u16, stop: u16, from: u16, to: u16) -> R
-    ensures { (n : ℕ) (m : LaneMap Member) → InOrder kind n m areas.entry.sides.now areas.entry.pieces.now (map means areas.entry.lanes.now) (map means areas.entry.sheets.now) → Parts n (ends_of areas.entry.sides.now) areas.entry.pieces.now stop from to p → (Ending (piece_at areas.entry.pieces.now p) from to → ⊥) → BestRate kind (lanes_of kind n (ends_of areas.entry.sides.now) areas.entry.pieces.now m stop) from to (means result) }
+    ensures { (n : ℕ) (m : LaneMap Member) → InOrder R.kind n m areas.entry.sides.now areas.entry.pieces.now (map R.means areas.entry.lanes.now) (map R.means areas.entry.sheets.now) → Parts n (ends_of areas.entry.sides.now) areas.entry.pieces.now stop from to p → (Ending (piece_at areas.entry.pieces.now p) from to → ⊥) → BestRate R.kind (lanes_of R.kind n (ends_of areas.entry.sides.now) areas.entry.pieces.now m stop) from to (R.means result) }
 {
     let own = child_towards(areas.sides, piece_at(areas.pieces, p), from);
     let near = step_from(areas.sides, areas.pieces, own);
@@ -114,7 +114,7 @@ fn parted_rate<R: Rate>(areas: Areas<'_, R>, p: u16, stop: u16, from: u16, to: u
 
 // The best rate of the trips from one terminal of the piece `stop` to another over the lanes of that piece.
 pub fn best_within<R: Rate>(areas: Areas<'_, R>, stop: u16, from: u16, to: u16) -> R
-    ensures { (n : ℕ) (m : LaneMap Member) → InOrder kind n m areas.entry.sides.now areas.entry.pieces.now (map means areas.entry.lanes.now) (map means areas.entry.sheets.now) → stop + 5 < 2 * n → Touches n (ends_of areas.entry.sides.now) (piece_at areas.entry.pieces.now stop) from → Touches n (ends_of areas.entry.sides.now) (piece_at areas.entry.pieces.now stop) to → BestRate kind (piece_lanes kind n (ends_of areas.entry.sides.now) (piece_at areas.entry.pieces.now stop) m) from to (means result) }
+    ensures { (n : ℕ) (m : LaneMap Member) → InOrder R.kind n m areas.entry.sides.now areas.entry.pieces.now (map R.means areas.entry.lanes.now) (map R.means areas.entry.sheets.now) → stop + 5 < 2 * n → Touches n (ends_of areas.entry.sides.now) (piece_at areas.entry.pieces.now stop) from → Touches n (ends_of areas.entry.sides.now) (piece_at areas.entry.pieces.now stop) to → BestRate R.kind (piece_lanes R.kind n (ends_of areas.entry.sides.now) (piece_at areas.entry.pieces.now stop) m) from to (R.means result) }
 {
     if from == to {
         return R::still();
@@ -129,7 +129,7 @@ pub fn best_within<R: Rate>(areas: Areas<'_, R>, stop: u16, from: u16, to: u16) 
 
 // The best rate of the trips from one terminal of the plan to another.
 pub fn best_rate<R: Rate>(areas: Areas<'_, R>, from: u16, to: u16) -> R
-    ensures { (n : ℕ) (m : LaneMap Member) → InOrder kind n m areas.entry.sides.now areas.entry.pieces.now (map means areas.entry.lanes.now) (map means areas.entry.sheets.now) → from < n → to < n → BestRate kind m from to (means result) }
+    ensures { (n : ℕ) (m : LaneMap Member) → InOrder R.kind n m areas.entry.sides.now areas.entry.pieces.now (map R.means areas.entry.lanes.now) (map R.means areas.entry.sheets.now) → from < n → to < n → BestRate R.kind m from to (R.means result) }
 {
     best_within(areas, 0, from, to)
 }

@@ -1,4 +1,6 @@
 // Examples of the kinds of rate at their limits, as tests.
+#![tactic(auto)]
+
 #[cfg(test)]
 mod tests {
     use rates::capped::Capped;

@@ -7,28 +7,28 @@ use crate::kind::Rate;
 
 // Whether a rate is none.
 pub fn is_none<R: Rate>(rate: R) -> bool
-    ensures { Decides result (means rate ≡ kind.none) }
+    ensures { Decides result (R.means rate ≡ R.kind.none) }
 {
     !rate.better(R::none())
 }
 
 // Whether two rates are the same member.
 pub fn same<R: Rate>(one: R, other: R) -> bool
-    ensures { Decides result (means one ≡ means other) }
+    ensures { Decides result (R.means one ≡ R.means other) }
 {
     !(one.better(other) | other.better(one))
 }
 
 // The better of two rates, the first where neither is better.
 pub fn better_of_two<R: Rate>(one: R, other: R) -> R
-    ensures { means result ≡ better_of kind (means one) (means other) }
+    ensures { R.means result ≡ better_of R.kind (R.means one) (R.means other) }
 {
     if other.better(one) { other } else { one }
 }
 
 // All rates of a slice joined in order: still where there are none of them.
 pub fn join_all<R: Rate>(rates: &[R]) -> R
-    ensures { sizes kind (map means rates.now) ≤ exact_size → means result ≡ joined_all kind (map means rates.now) }
+    ensures { sizes R.kind (map R.means rates.now) ≤ exact_size → R.means result ≡ joined_all R.kind (map R.means rates.now) }
 {
     let mut all = R::still();
     for rate in rates {
@@ -39,7 +39,7 @@ pub fn join_all<R: Rate>(rates: &[R]) -> R
 
 // The best of a slice: none where it is empty.
 pub fn best_of_all<R: Rate>(rates: &[R]) -> R
-    ensures { BestOf kind (map means rates.now) (means result) }
+    ensures { BestOf R.kind (map R.means rates.now) (R.means result) }
 {
     let mut best = R::none();
     for rate in rates {
@@ -50,7 +50,7 @@ pub fn best_of_all<R: Rate>(rates: &[R]) -> R
 
 // The place of the best of a slice, the first of equals: nothing where it is empty.
 pub fn best_place<R: Rate>(rates: &[R]) -> Option<usize>
-    ensures { MatchOption result (length rates.now ≡ 0) (FirstBest kind (map means rates.now) (length rates.now)) }
+    ensures { MatchOption result (length rates.now ≡ 0) (FirstBest R.kind (map R.means rates.now) (length rates.now)) }
 {
     if rates.is_empty() {
         return None;

@@ -1,4 +1,6 @@
 // The records of a division, and the row of limits.
+#![tactic(auto)]
+
 ghost use Rattle.std.specs.Prelude.{◌≡◌, ◌≤◌, length, slice_index};
 ghost use Rattle.records.specs.Few.{added, listed, none, Position, raised};
 ghost use Rattle.records.specs.Limits.{limit, RowOfLimits};

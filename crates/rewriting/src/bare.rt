@@ -16,7 +16,7 @@ const ROW: usize = 8;
 
 // None at each place.
 pub fn clear_lanes<R: Rate>(lanes: &mut [R])
-    ensures { (k : ℕ) → slice_index_or (map means lanes.new) k kind.none ≡ kind.none }
+    ensures { (k : ℕ) → slice_index_or (map R.means lanes.new) k R.kind.none ≡ R.kind.none }
 {
     for k in 0..lanes.len() {
         lanes[k] = R::none();
@@ -25,7 +25,7 @@ pub fn clear_lanes<R: Rate>(lanes: &mut [R])
 
 // The place k of a sheet with so many edge terminals: staying put costs nothing, and no terminal reaches another.
 fn bare_at<R: Rate>(count: usize, k: usize) -> R
-    ensures { means result ≡ bare_place kind count k }
+    ensures { R.means result ≡ bare_place R.kind count k }
 {
     if (k / ROW == k % ROW) & (k % ROW < count) {
         R::still()
@@ -37,7 +37,7 @@ fn bare_at<R: Rate>(count: usize, k: usize) -> R
 // The sheet of one piece.
 fn write_bare_sheet<R: Rate>(piece: Piece, sheet: &mut [R])
     requires { length sheet.old ≡ 64 }
-    ensures { (k : ℕ) → k < 64 → slice_index_or (map means sheet.new) k kind.none ≡ bare_place kind (length (listed piece.edges)) k }
+    ensures { (k : ℕ) → k < 64 → slice_index_or (map R.means sheet.new) k R.kind.none ≡ bare_place R.kind (length (listed piece.edges)) k }
 {
     let count = piece.edges.len();
     for k in 0..SHEET {
@@ -47,9 +47,9 @@ fn write_bare_sheet<R: Rate>(piece: Piece, sheet: &mut [R])
 
 // Writes the sheets of the pieces that there is room for, as they are while no lane stands.
 pub fn write_bare_sheets<R: Rate>(pieces: &[Piece], sheets: &mut [R])
-    ensures written { BareSheets kind pieces.now (map means sheets.new) }
+    ensures written { BareSheets R.kind pieces.now (map R.means sheets.new) }
     ensures behind { drop (64 * min (length pieces.now) (length sheets.old / 64)) sheets.new ≡ drop (64 * min (length pieces.now) (length sheets.old / 64)) sheets.old }
-    ensures shown { (n : ℕ) (e : Ends) (m : LaneMap Member) → NoLanes kind m → Division n e pieces.now → 2 * n ≤ length pieces.now + 5 → 64 * (2 * n) ≤ length sheets.old + 320 → AllShown kind n e pieces.now m (map means sheets.new) }
+    ensures shown { (n : ℕ) (e : Ends) (m : LaneMap Member) → NoLanes R.kind m → Division n e pieces.now → 2 * n ≤ length pieces.now + 5 → 64 * (2 * n) ≤ length sheets.old + 320 → AllShown R.kind n e pieces.now m (map R.means sheets.new) }
 {
     let most = pieces.len().min(sheets.len() / SHEET);
     for p in 0..most {

@@ -1,4 +1,6 @@
 // Sheets kept right: the first ones, on which no lane stands, and those that a changed lane asks for.
+#![tactic(auto)]
+
 mod bare;
 mod change;
 mod one;

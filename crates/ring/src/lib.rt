@@ -1,4 +1,6 @@
 // Plans of terminals in a ring: which plans are refused, and the fill of the ring polygon to triangles.
+#![tactic(auto)]
+
 mod checks;
 mod fill;
 mod find;

@@ -1,4 +1,6 @@
 // A best trip between two terminals, found by unfolding parts of it from the whole plan down to single triangles.
+#![tactic(auto)]
+
 mod seam;
 mod split;
 mod triangle;

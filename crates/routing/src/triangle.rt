@@ -16,7 +16,7 @@ pub(crate) fn pass_triangle<R: Rate>(
     stops: &mut [u16],
     count: usize,
 ) -> usize
-    ensures { LanesWithin kind (corner_lanes kind t.low t.third t.high (means t.left.up) (means t.left.down) (means t.right.up) (means t.right.down) (means t.base.up) (means t.base.down)) → PassedAll stops.old count (triangle_stops kind (corner_lanes kind t.low t.third t.high (means t.left.up) (means t.left.down) (means t.right.up) (means t.right.down) (means t.base.up) (means t.base.down)) t.low t.third t.high part.from part.to) result stops.new }
+    ensures { LanesWithin R.kind (corner_lanes R.kind t.low t.third t.high (R.means t.left.up) (R.means t.left.down) (R.means t.right.up) (R.means t.right.down) (R.means t.base.up) (R.means t.base.down)) → PassedAll stops.old count (triangle_stops R.kind (corner_lanes R.kind t.low t.third t.high (R.means t.left.up) (R.means t.left.down) (R.means t.right.up) (R.means t.right.down) (R.means t.base.up) (R.means t.base.down)) t.low t.third t.high part.from part.to) result stops.new }
 {
     let third = other_corner(t.low, t.third, t.high, part.from, part.to);
     let round = lane_of(t, part.from, third).join(lane_of(t, third, part.to));

@@ -1,4 +1,6 @@
 // Plans of well-known shapes: the sides of a whole triangulation as links, in preorder.
+#![tactic(auto)]
+
 ghost use Rattle.std.specs.Prelude.{◌≡◌, ◌+◌, ◌<◌, slice_set};
 
 use ring::Link;

@@ -14,7 +14,7 @@ pub const SHEET: usize = 64;
 
 // The rate at a place of an area; none past its end.
 pub fn rate_at<R: Rate>(area: &[R], place: usize) -> R
-    ensures { means result ≡ slice_index_or (map means area.now) place kind.none }
+    ensures { R.means result ≡ slice_index_or (map R.means area.now) place R.kind.none }
 {
     if place >= area.len() {
         return R::none();
@@ -24,14 +24,14 @@ pub fn rate_at<R: Rate>(area: &[R], place: usize) -> R
 
 // The rate from the edge terminal i to the edge terminal j; none past the sheet's end.
 pub(crate) fn cell_at<R: Rate>(sheet: &[R], i: u8, j: u8) -> R
-    ensures { means result ≡ cell kind (map means sheet.now) i j }
+    ensures { R.means result ≡ cell R.kind (map R.means sheet.now) i j }
 {
     rate_at(sheet, ROW * i as usize + j as usize)
 }
 
 // The better of a rate and two others joined; exact while the sizes of the two add up to little enough.
 pub fn better_joined<R: Rate>(best: R, one: R, other: R) -> R
-    ensures { kind.size (means one) + kind.size (means other) ≤ exact_size → means result ≡ better_of kind (means best) (kind.join (means one) (means other)) }
+    ensures { R.kind.size (R.means one) + R.kind.size (R.means other) ≤ exact_size → R.means result ≡ better_of R.kind (R.means best) (R.kind.join (R.means one) (R.means other)) }
 {
     better_of_two(best, one.join(other))
 }

@@ -48,8 +48,8 @@ pub fn side_at(sides: &[Side], i: u32) -> Side
 
 // The lanes of a side; none where they are not counted.
 fn both_at<R: Rate>(lanes: &[R], side: u32, counted: bool) -> Both<R>
-    ensures up { means result.up ≡ rate_if kind counted (map means lanes.now) (2 * side) }
-    ensures down { means result.down ≡ rate_if kind counted (map means lanes.now) (2 * side + 1) }
+    ensures up { R.means result.up ≡ rate_if R.kind counted (map R.means lanes.now) (2 * side) }
+    ensures down { R.means result.down ≡ rate_if R.kind counted (map R.means lanes.now) (2 * side + 1) }
 {
     if counted {
         Both {
@@ -66,7 +66,7 @@ fn both_at<R: Rate>(lanes: &[R], side: u32, counted: bool) -> Both<R>
 
 // The triangle on a base. The lanes of its other two sides belong to it where they have length 1.
 pub fn triangle_on<R: Rate>(sides: &[Side], lanes: &[R], base: u16) -> Triangle<R>
-    ensures { TriangleRead kind (ends_of sides.now) base (map means lanes.now) result.low result.third result.high (means result.left.up) (means result.left.down) (means result.right.up) (means result.right.down) (means result.base.up) (means result.base.down) }
+    ensures { TriangleRead R.kind (ends_of sides.now) base (map R.means lanes.now) result.low result.third result.high (R.means result.left.up) (R.means result.left.down) (R.means result.right.up) (R.means result.right.down) (R.means result.base.up) (R.means result.base.down) }
 {
     let top = side_at(sides, base as u32);
     let left = side_at(sides, base as u32 + 1);
@@ -85,7 +85,7 @@ pub fn triangle_on<R: Rate>(sides: &[Side], lanes: &[R], base: u16) -> Triangle<
 
 // The rate from u to v along the side from a to b, or else another.
 fn rate_along<R: Rate>(a: u16, b: u16, both: Both<R>, u: u16, v: u16, others: R) -> R
-    ensures { means result ≡ along kind a b (means both.up) (means both.down) u v (means others) }
+    ensures { R.means result ≡ along R.kind a b (R.means both.up) (R.means both.down) u v (R.means others) }
 {
     if (u == a) & (v == b) {
         both.up
@@ -98,7 +98,7 @@ fn rate_along<R: Rate>(a: u16, b: u16, both: Both<R>, u: u16, v: u16, others: R)
 
 // The rate of the triangle's lane from u to v.
 pub fn lane_of<R: Rate>(t: Triangle<R>, u: u16, v: u16) -> R
-    ensures { means result ≡ corner_lanes kind t.low t.third t.high (means t.left.up) (means t.left.down) (means t.right.up) (means t.right.down) (means t.base.up) (means t.base.down) u v }
+    ensures { R.means result ≡ corner_lanes R.kind t.low t.third t.high (R.means t.left.up) (R.means t.left.down) (R.means t.right.up) (R.means t.right.down) (R.means t.base.up) (R.means t.base.down) u v }
 {
     let base = rate_along(t.low, t.high, t.base, u, v, R::none());
     let right = rate_along(t.third, t.high, t.right, u, v, base);
@@ -120,7 +120,7 @@ pub fn other_corner(a: u16, b: u16, c: u16, u: u16, v: u16) -> u16
 
 // The best rate from u to v within the triangle.
 pub fn leaf_entry<R: Rate>(t: Triangle<R>, u: u16, v: u16) -> R
-    ensures { LanesWithin kind (corner_lanes kind t.low t.third t.high (means t.left.up) (means t.left.down) (means t.right.up) (means t.right.down) (means t.base.up) (means t.base.down)) → means result ≡ triangle_entry kind t.low t.third t.high (corner_lanes kind t.low t.third t.high (means t.left.up) (means t.left.down) (means t.right.up) (means t.right.down) (means t.base.up) (means t.base.down)) u v }
+    ensures { LanesWithin R.kind (corner_lanes R.kind t.low t.third t.high (R.means t.left.up) (R.means t.left.down) (R.means t.right.up) (R.means t.right.down) (R.means t.base.up) (R.means t.base.down)) → R.means result ≡ triangle_entry R.kind t.low t.third t.high (corner_lanes R.kind t.low t.third t.high (R.means t.left.up) (R.means t.left.down) (R.means t.right.up) (R.means t.right.down) (R.means t.base.up) (R.means t.base.down)) u v }
 {
     if u == v {
         return R::still();
@@ -132,7 +132,7 @@ pub fn leaf_entry<R: Rate>(t: Triangle<R>, u: u16, v: u16) -> R
 // The place k of the sheet: none at an unused one.
 fn leaf_at<R: Rate>(t: Triangle<R>, edges: Few, count: usize, k: usize) -> R
     requires { count ≡ length (listed edges) }
-    ensures { LanesWithin kind (corner_lanes kind t.low t.third t.high (means t.left.up) (means t.left.down) (means t.right.up) (means t.right.down) (means t.base.up) (means t.base.down)) → means result ≡ leaf_place kind t.low t.third t.high (corner_lanes kind t.low t.third t.high (means t.left.up) (means t.left.down) (means t.right.up) (means t.right.down) (means t.base.up) (means t.base.down)) (listed edges) k }
+    ensures { LanesWithin R.kind (corner_lanes R.kind t.low t.third t.high (R.means t.left.up) (R.means t.left.down) (R.means t.right.up) (R.means t.right.down) (R.means t.base.up) (R.means t.base.down)) → R.means result ≡ leaf_place R.kind t.low t.third t.high (corner_lanes R.kind t.low t.third t.high (R.means t.left.up) (R.means t.left.down) (R.means t.right.up) (R.means t.right.down) (R.means t.base.up) (R.means t.base.down)) (listed edges) k }
 {
     if (k / ROW < count) & (k % ROW < count) {
         leaf_entry(t, edges.get(k / ROW), edges.get(k % ROW))
@@ -143,7 +143,7 @@ fn leaf_at<R: Rate>(t: Triangle<R>, edges: Few, count: usize, k: usize) -> R
 
 // Writes the sheet of a piece of one triangle from the lane area. Nothing is written where the sheet is shorter than 64 rates.
 pub fn write_leaf<R: Rate>(sides: &[Side], lanes: &[R], piece: Piece, sheet: &mut [R])
-    ensures shows { (n : ℕ) (m : LaneMap Member) → 64 ≤ length sheet.old → LeafStands kind n (ends_of sides.now) m piece (map means lanes.now) → SheetShows kind n (ends_of sides.now) piece m (map means sheet.new) }
+    ensures shows { (n : ℕ) (m : LaneMap Member) → 64 ≤ length sheet.old → LeafStands R.kind n (ends_of sides.now) m piece (map R.means lanes.now) → SheetShows R.kind n (ends_of sides.now) piece m (map R.means sheet.new) }
     ensures kept { drop 64 sheet.new ≡ drop 64 sheet.old }
     ensures short { length sheet.old < 64 → sheet.new ≡ sheet.old }
 {

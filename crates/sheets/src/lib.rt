@@ -1,4 +1,6 @@
 // Sheets of pieces, written over lent slices of rates of any kind.
+#![tactic(auto)]
+
 mod cells;
 mod leaf;
 mod parent;

@@ -71,7 +71,7 @@ fn part_of(cut: Cut, edges: Few) -> Part
 // From a part's edge terminal i to an end of the seam: straight, or to the other end and back through the other part.
 // An end comes as its places in the two parts.
 fn to_seam<R: Rate>(own: &[R], other: &[R], i: u8, to: (u8, u8), round: (u8, u8)) -> R
-    ensures { Within kind (map means own.now) → Within kind (map means other.now) → means result ≡ to_seam_at kind (map means own.now) (map means other.now) i to round }
+    ensures { Within R.kind (map R.means own.now) → Within R.kind (map R.means other.now) → R.means result ≡ to_seam_at R.kind (map R.means own.now) (map R.means other.now) i to round }
 {
     better_joined(
         cell_at(own, i, to.0),
@@ -82,7 +82,7 @@ fn to_seam<R: Rate>(own: &[R], other: &[R], i: u8, to: (u8, u8), round: (u8, u8)
 
 // By either end of the seam, at the rates to them, and through a part to its edge terminal j.
 fn by_seam<R: Rate>(low: R, high: R, sheet: &[R], ends: (u8, u8), j: u8) -> R
-    ensures { Within kind (map means sheet.now) → kind.size (means low) ≤ 2 * largest → kind.size (means high) ≤ 2 * largest → means result ≡ by_seam_at kind (means low) (means high) (map means sheet.now) ends j }
+    ensures { Within R.kind (map R.means sheet.now) → R.kind.size (R.means low) ≤ 2 * largest → R.kind.size (R.means high) ≤ 2 * largest → R.means result ≡ by_seam_at R.kind (R.means low) (R.means high) (map R.means sheet.now) ends j }
 {
     better_joined(
         low.join(cell_at(sheet, ends.0, j)),
@@ -103,7 +103,7 @@ fn climb_to<R: Rate>(
     k: usize,
 ) -> R
     requires { k < 8 }
-    ensures { Within kind (map means own.now) → Within kind (map means other.now) → kind.size (means low) ≤ 2 * largest → kind.size (means high) ≤ 2 * largest → means result ≡ climb_at kind p q (map means own.now) (map means other.now) (means low) (means high) i k }
+    ensures { Within R.kind (map R.means own.now) → Within R.kind (map R.means other.now) → R.kind.size (R.means low) ≤ 2 * largest → R.kind.size (R.means high) ≤ 2 * largest → R.means result ≡ climb_at R.kind p q (map R.means own.now) (map R.means other.now) (R.means low) (R.means high) i k }
 {
     let j = p.at[k];
     if j < p.count {
@@ -119,7 +119,7 @@ fn climb_to<R: Rate>(
 // A row of the cut piece's sheet: the climb from the edge terminal i of the part p to each of its `count` edge terminals.
 fn climb_row<R: Rate>(own: &[R], other: &[R], p: Part, q: Part, i: u8, count: usize, row: &mut [R])
     requires { length row.old ≡ 8 }
-    ensures { Within kind (map means own.now) → Within kind (map means other.now) → Row kind count (climbed_at kind p q (map means own.now) (map means other.now) i) (map means row.new) }
+    ensures { Within R.kind (map R.means own.now) → Within R.kind (map R.means other.now) → Row R.kind count (climbed_at R.kind p q (map R.means own.now) (map R.means other.now) i) (map R.means row.new) }
 {
     let low = to_seam(own, other, i, (p.low, q.low), (p.high, q.high));
     let high = to_seam(own, other, i, (p.high, q.high), (p.low, q.low));
@@ -135,7 +135,7 @@ fn climb_row<R: Rate>(own: &[R], other: &[R], p: Part, q: Part, i: u8, count: us
 
 // None at each place of a row.
 fn clear_row<R: Rate>(row: &mut [R])
-    ensures { (k : ℕ) → slice_index_or (map means row.new) k kind.none ≡ kind.none }
+    ensures { (k : ℕ) → slice_index_or (map R.means row.new) k R.kind.none ≡ R.kind.none }
 {
     for k in 0..row.len() {
         row[k] = R::none();
@@ -145,7 +145,7 @@ fn clear_row<R: Rate>(row: &mut [R])
 // The row of the edge terminal i of the cut piece: the climb from where it stands in the first part that has it.
 fn parent_row<R: Rate>(a: &[R], b: &[R], p: Part, q: Part, count: usize, i: usize, row: &mut [R])
     requires { (i < 8) × (length row.old ≡ 8) }
-    ensures { Within kind (map means a.now) → Within kind (map means b.now) → ParentRow kind count p q (map means a.now) (map means b.now) i (map means row.new) }
+    ensures { Within R.kind (map R.means a.now) → Within R.kind (map R.means b.now) → ParentRow R.kind count p q (map R.means a.now) (map R.means b.now) i (map R.means row.new) }
 {
     if i >= count {
         clear_row(row);
@@ -158,8 +158,8 @@ fn parent_row<R: Rate>(a: &[R], b: &[R], p: Part, q: Part, count: usize, i: usiz
 
 // Writes the sheet of a cut piece from those of its parts, of 64 rates each. Nothing is written where the sheet is shorter.
 pub fn write_parent<R: Rate>(cut: Cut, a: &[R], b: &[R], sheet: &mut [R])
-    ensures written { 64 ≤ length sheet.old → Within kind (map means a.now) → Within kind (map means b.now) → ParentSheet kind cut.piece cut.first cut.second cut.low cut.high (map means a.now) (map means b.now) (map means sheet.new) }
-    ensures shows { (n : ℕ) (e : Ends) (m : LaneMap Member) → 64 ≤ length sheet.old → length a.now ≤ 64 → length b.now ≤ 64 → PartsShown kind n e m cut.piece cut.first cut.second cut.low cut.high (map means a.now) (map means b.now) → SheetShows kind n e cut.piece m (map means sheet.new) }
+    ensures written { 64 ≤ length sheet.old → Within R.kind (map R.means a.now) → Within R.kind (map R.means b.now) → ParentSheet R.kind cut.piece cut.first cut.second cut.low cut.high (map R.means a.now) (map R.means b.now) (map R.means sheet.new) }
+    ensures shows { (n : ℕ) (e : Ends) (m : LaneMap Member) → 64 ≤ length sheet.old → length a.now ≤ 64 → length b.now ≤ 64 → PartsShown R.kind n e m cut.piece cut.first cut.second cut.low cut.high (map R.means a.now) (map R.means b.now) → SheetShows R.kind n e cut.piece m (map R.means sheet.new) }
     ensures kept { drop 64 sheet.new ≡ drop 64 sheet.old }
     ensures short { length sheet.old < 64 → sheet.new ≡ sheet.old }
 {

@@ -14,14 +14,14 @@ pub const MOST_TERMINALS: usize = 64;
 
 // Whether a lane's place may hold a rate: none, where it does not stand, or a lane rate.
 fn lane_or_none<R: Rate>(rate: R) -> bool
-    ensures { Decides result (LaneOrNone kind (means rate)) }
+    ensures { Decides result (LaneOrNone R.kind (R.means rate)) }
 {
     is_none(rate) | rate.is_lane_rate()
 }
 
 // The first place that holds neither none nor a lane rate.
 fn first_no_rate<R: Rate>(lanes: &[R]) -> Option<usize>
-    ensures { MatchOption result (LanesBelow kind (map means lanes.now) (length lanes.now)) (FirstNoRate kind (map means lanes.now)) }
+    ensures { MatchOption result (LanesBelow R.kind (map R.means lanes.now) (length lanes.now)) (FirstNoRate R.kind (map R.means lanes.now)) }
 {
     for (i, rate) in lanes.iter().enumerate() {
         if !lane_or_none(*rate) {
@@ -33,7 +33,7 @@ fn first_no_rate<R: Rate>(lanes: &[R]) -> Option<usize>
 
 // Why the areas show no network of n terminals, if they do not; the table has so many places.
 fn areas_refusal<R: Rate>(n: usize, lanes: &[R], places: usize) -> Option<Refusal>
-    ensures { AreasChecked kind n (map means lanes.now) places result }
+    ensures { AreasChecked R.kind n (map R.means lanes.now) places result }
 {
     if n == 0 {
         return Some(Refusal::NoTerminals);
@@ -53,8 +53,8 @@ fn areas_refusal<R: Rate>(n: usize, lanes: &[R], places: usize) -> Option<Refusa
 
 // Fills each row of the table.
 fn fill_rows<R: Rate>(n: usize, lanes: &[R], table: &mut [R])
-    requires { (LaneArea kind n (map means lanes.now)) × (length table.old ≡ n * n) }
-    ensures { RowsFound kind (lane_map kind n (map means lanes.now)) n n (entry_at kind n (map means table.new)) }
+    requires { (LaneArea R.kind n (map R.means lanes.now)) × (length table.old ≡ n * n) }
+    ensures { RowsFound R.kind (lane_map R.kind n (map R.means lanes.now)) n n (entry_at R.kind n (map R.means table.new)) }
 {
     for u in 0..n {
         row_from(n, lanes, u, &mut table[n * u..n * u + n]);
@@ -64,7 +64,7 @@ fn fill_rows<R: Rate>(n: usize, lanes: &[R], table: &mut [R])
 // Whether the rate from some terminal back to it is better than still.
 fn some_loop_better<R: Rate>(n: usize, table: &[R]) -> bool
     requires { (n ≤ 64) × (length table.now ≡ n * n) }
-    ensures { Decides result (SomeLoopBetter kind n (entry_at kind n (map means table.now))) }
+    ensures { Decides result (SomeLoopBetter R.kind n (entry_at R.kind n (map R.means table.now))) }
 {
     for u in 0..n {
         if table[n * u + u].better(R::still()) {
@@ -79,7 +79,7 @@ fn some_loop_better<R: Rate>(n: usize, table: &[R]) -> bool
 // Answers whether a closed trip earns: if so, there need be no best rates, and the table is not to be used.
 // A refusal leaves the table as it was.
 pub fn best_rates<R: Rate>(n: usize, lanes: &[R], table: &mut [R]) -> Result<bool, Refusal>
-    ensures { Relaxing kind means n (map means lanes.now) table.old table.new result }
+    ensures { Relaxing R.kind R.means n (map R.means lanes.now) table.old table.new result }
 {
     if let Some(why) = areas_refusal(n, lanes, table.len()) {
         return Err(why);
@@ -109,7 +109,7 @@ fn pair_refusal(n: usize, places: usize, from: usize, to: usize) -> Option<Refus
 
 // The rate from one terminal to another that a table has: the best, if `best_rates` filled it and no closed trip earns.
 pub fn best_rate<R: Rate>(n: usize, table: &[R], from: usize, to: usize) -> Result<R, Refusal>
-    ensures { LookedUp kind means n table.now from to result }
+    ensures { LookedUp R.kind R.means n table.now from to result }
 {
     if let Some(why) = pair_refusal(n, table.len(), from, to) {
         return Err(why);
@@ -126,7 +126,7 @@ pub fn would_earn<R: Rate>(
     to: usize,
     rate: R,
 ) -> Result<bool, Refusal>
-    ensures { Testing kind means n table.now from to (means rate) result }
+    ensures { Testing R.kind R.means n table.now from to (R.means rate) result }
 {
     if let Some(why) = pair_refusal(n, table.len(), from, to) {
         return Err(why);
@@ -146,7 +146,7 @@ pub fn set_lane<R: Rate>(
     to: usize,
     rate: R,
 ) -> Result<(), Refusal>
-    ensures { MatchResult result (λ _. LaneSet kind means n lanes.old lanes.new from to (means rate)) (λ why. LaneRefused kind n lanes.old lanes.new from to (means rate) why) }
+    ensures { MatchResult result (λ _. LaneSet R.kind R.means n lanes.old lanes.new from to (R.means rate)) (λ why. LaneRefused R.kind n lanes.old lanes.new from to (R.means rate) why) }
 {
     if let Some(why) = pair_refusal(n, lanes.len(), from, to) {
         return Err(why);

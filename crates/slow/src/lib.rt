@@ -1,4 +1,6 @@
 // The best rates of a network of few terminals by plain relaxation: slow and simple, a yardstick for faster methods.
+#![tactic(auto)]
+
 pub mod best;
 pub mod refusal;
 mod rows;

@@ -1,4 +1,6 @@
 // Quotes rates in networks read from standard input, by the slow method.
+#![tactic(auto)]
+
 mod order;
 mod quotes;
 

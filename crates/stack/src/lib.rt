@@ -1,4 +1,6 @@
 // A stack over a lent slice: it allocates nothing, and refuses a push when the slice is full.
+#![tactic(auto)]
+
 ghost use Rattle.std.specs.Prelude.{◌≡◌, ◌≤◌, length};
 ghost use Rattle.stack.specs.Moves.{Popped, Pushed};
 

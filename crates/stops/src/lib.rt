@@ -1,4 +1,6 @@
 // The stops of a trip that is being written: one more stop, or the trip cut back where it passed the terminal before.
+#![tactic(auto)]
+
 ghost use Rattle.std.specs.Prelude.{◌≡◌, ◌+◌, ◌<◌, ◌≤◌, min, [], ◌∷◌, ◌++◌, length, take};
 ghost use Rattle.piece_rates.specs.Climbing.{place};
 ghost use Rattle.stops.specs.Passing.{LoopsAreCut, Passed};
@@ -34,7 +36,7 @@ pub fn pass(stops: &mut [u16], count: usize, terminal: u16) -> usize
 
 // Where no closed trip earns, passing one more terminal that way keeps a trip without a terminal twice, at a rate no worse.
 pub fn loops_are_cut<R: Rate>() -> u8
-    ensures { LoopsAreCut kind }
+    ensures { LoopsAreCut R.kind }
 {
     0
 }

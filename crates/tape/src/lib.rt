@@ -1,4 +1,6 @@
 // The tape: records of a byte of kind and a body, their reader and their writer.
+#![tactic(auto)]
+
 mod contents;
 mod faults;
 mod fields;

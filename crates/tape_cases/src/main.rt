@@ -1,5 +1,7 @@
 // Lists the tapes on standard input, one to a line in hexadecimal, and makes each regular one again
 // from its listing. What is made again is told as `same` or `other`.
+#![tactic(auto)]
+
 ghost use Rattle.std.specs.Prelude.{◌≡◌, ◌/◌, length, IfOk, vec_len};
 ghost use Rattle.tape_cases.specs.Hex.{nibble_of};
 

@@ -1,4 +1,6 @@
 // Lists the tape on standard input: a line for each record, then how the tape ends.
+#![tactic(auto)]
+
 use std::io;
 use std::io::Read;
 use tape_text::list_tape;

@@ -1,5 +1,7 @@
 // Makes a tape from the text on standard input, a line for each record, and writes its bytes to
 // standard output. Where a line is no record it writes nothing, and names the line on standard error.
+#![tactic(auto)]
+
 use std::io;
 use std::io::Write;
 use tape_text::{MakeFault, make_tape};

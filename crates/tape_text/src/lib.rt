@@ -1,4 +1,6 @@
 // Tapes as text: a line for each record, with its place, its kind and its fields.
+#![tactic(auto)]
+
 mod listings;
 mod making;
 mod parsing;

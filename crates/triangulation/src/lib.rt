@@ -1,4 +1,6 @@
 // Triangulations of a ring polygon: the theorems that the layers above cite. No code runs here.
+#![tactic(auto)]
+
 ghost use Rattle.triangulation.specs.Filling.{FillTriangulates, LinksAreSides, OneFill, SomeFill};
 ghost use Rattle.triangulation.specs.Geometry.{LengthsFromPlaces, OneSubtreeAtAPlace, PreorderIsSorted, ReadByPlace, SidesByPlace, SidesPartTheRing};
 

@@ -8,7 +8,7 @@ use Rattle.rates.proofs.many.best_place.Goals.{then-better, else-better}
 pub loop-i-init : goal.loop-i-init
 loop-i-init g c =
     let n = length c.args.rates.now in (
-      omega (arith, eqb-false n 0 (sym c.if-is-empty.ensures)),
+      omega (arith, eqb-false n 0 (sym c.if-is_empty.ensures)),
       first_best_0 g.R.Rate.kind g.met.R.Rate.laws g.R.Rate.means c.args.rates.now,
     )
 
