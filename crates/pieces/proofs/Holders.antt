@@ -149,8 +149,8 @@ module _ (n : ℕ) (e : Ends) (ps : List Piece) (d : Division n e ps) where
           λ p o. subst (λ ws. Among p ws) (sym e1) (⊎_elim (λ s. inl s) (λ a. inr (h.2 p (above_parent p (suc q) a))) o),
         )
 
-    pub way_up : (q f : ℕ) → q + 5 < 2 * n → 41 ≤ f → WayUp ps q (way_up ps f q)
-    way_up q f r l =
+    pub way_up_stands : (q f : ℕ) → q + 5 < 2 * n → 41 ≤ f → WayUp ps q (way_up ps f q)
+    way_up_stands q f r l =
         let deep = (d.stands q r).not_deeper in
         let w = way f q r (omega arith) in
         record { one_a_level = w.0; at_most = omega (arith, w.0); listed_are = w.1; all_listed = w.2 }
@@ -160,4 +160,4 @@ holders n e ps d q b rq leaf hq p rp =
     (holds_on n e ps d q b rq leaf hq p p (omega arith) rp, λ o. on_holds n e ps d p q b rq o hq)
 
 pub way_up_complete : WayUpComplete
-way_up_complete n e ps d long q f r l = way_up n e ps d long q f r l
+way_up_complete n e ps d long q f r l = way_up_stands n e ps d long q f r l

@@ -9,7 +9,7 @@ use Rattle.pieces.specs.Holding.Above.{parent, higher}
 use Rattle.pieces.specs.Division.{Division, LeafMarked}
 use Rattle.pieces.specs.Holders.{OnWayUp, way_up, LaneHoldersListed}
 use Rattle.pieces.proofs.Places.{preorder}
-use Rattle.pieces.proofs.Holders.{holders, way_up, under_cut}
+use Rattle.pieces.proofs.Holders.{holders, way_up_stands, under_cut}
 use Rattle.pieces.proofs.Geometry.{in_root}
 use Rattle.pieces.proofs.Leaves.{belongs_once}
 
@@ -27,7 +27,7 @@ triangle_range n len i b r (inr h) = ⊎_elim (λ s. omega arith) (λ s. omega a
 pub lane_holders : LaneHoldersListed
 lane_holders n e ps fl d long i leaf f r m enough =
     let pre = preorder n e fl in
-    let w = way_up n e ps d long leaf f m.in_range enough in
+    let w = way_up_stands n e ps d long leaf f m.in_range enough in
     let once = λ (b : ℕ) (own : Belongs (span e) i b).
     belongs_once n (span e) pre i b m.triangle (in_root n e fl b (triangle_range n (span e) i b r own)) (in_root n e fl m.triangle (triangle_range n (span e) i m.triangle r m.belongs)) own m.belongs in
     let hold = holders n e ps d leaf m.triangle m.in_range m.uncut m.holds_it in

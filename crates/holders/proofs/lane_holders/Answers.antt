@@ -5,11 +5,11 @@ use Rattle.holders.proofs.lane_holders.Goals as goal
 
 pub returns : goal.returns
 returns c =
-    let w = c.way-up.ensures.walked in
+    let w = c.way_up.ensures.walked in
     record {
       inside = w.inside;
-      few = w.at-most;
+      few = w.at_most;
       behind = w.behind;
       holders = λ n e fl d marks _ long range wide.
-          walked_holders c.args.pieces.now c.args.i (get_or c.args.sides.now c.args.i no_side).leaf c.args.out.now c.way-up.result c.way-up.new.out w n e fl d (marks c.args.i range) long range wide;
+          walked_holders c.args.pieces.now c.args.i (get_or c.args.sides.now c.args.i no_side).leaf c.args.out.now c.way_up.result c.way_up.new.out w n e fl d (marks c.args.i range) long range wide;
     }

@@ -7,47 +7,47 @@ use Rattle.plan.proofs.Checks.{all_areas, room}
 use Rattle.plan.proofs.Sides.{front_filled, laid_out, never_undivided}
 use Rattle.plan.proofs.lay_out.Goals as goal
 
-pub returns-in-err-check-room : goal.returns-in-err-check-room
-returns-in-err-check-room c =
-    let p = err_from_is_err_and c.from-residual.result c.from-residual.ensures.1 in
+pub returns-in_err-check_room : goal.returns-in_err-check_room
+returns-in_err-check_room c =
+    let p = err_from_is_err_and c.from_residual.result c.from_residual.ensures.1 in
     let areas = lent c.args.n (length c.args.sides.now) (length c.args.pieces.now) (length c.args.todo.now) in
     let links = c.args.links.now in
-    let f = c.in-err-check-room.field-0.0 in
+    let f = c.in_err-check_room.field-0.0 in
     record {
       checked = rw (p.1, p.2)
           (first_of_all c.args.n areas links (Err f)
-          (first_early (Condition c.args.n areas links) 0 2 (3 + 3 * length links) f (omega arith) (c.in-err-check-room.ensures links)));
+          (first_early (Condition c.args.n areas links) 0 2 (3 + 3 * length links) f (omega arith) (c.in_err-check_room.ensures links)));
       left = rw p.1 (record { sides = refl; pieces = refl });
     }
 
-pub returns-in-err-triangulate : goal.returns-in-err-triangulate
-returns-in-err-triangulate c =
-    let p = err_from_is_err_and c.from-residual-in-err-triangulate.result c.from-residual-in-err-triangulate.ensures.1 in
+pub returns-in_err-triangulate : goal.returns-in_err-triangulate
+returns-in_err-triangulate c =
+    let p = err_from_is_err_and c.from_residual-in_err-triangulate.result c.from_residual-in_err-triangulate.ensures.1 in
     let links = c.args.links.now in
-    let f = c.in-err-triangulate.field-0.0 in
+    let f = c.in_err-triangulate.field-0.0 in
     record {
       checked = rw (p.1, p.2)
           (all_areas c.args.n (length c.args.sides.now) (length c.args.pieces.now) (length c.args.todo.now) links
-          (c.in-ok-check-room.ensures links) (Err f) c.in-err-triangulate.ensures.checked);
-      left = rw p.1 (record { sides = c.in-err-triangulate.ensures.left; pieces = refl });
+          (c.in_ok-check_room.ensures links) (Err f) c.in_err-triangulate.ensures.checked);
+      left = rw p.1 (record { sides = c.in_err-triangulate.ensures.left; pieces = refl });
     }
 
 pub returns-in-Ok : goal.returns-in-Ok
 returns-in-Ok c =
     let links = c.args.links.now in
-    let early = c.in-ok-check-room.ensures links in
+    let early = c.in_ok-check_room.ensures links in
     let w = room c.args.n (length c.args.sides.now) (length c.args.pieces.now) (length c.args.todo.now) links early in
     let o = c.in-Ok.ensures in
     record {
-      checked = all_areas c.args.n (length c.args.sides.now) (length c.args.pieces.now) (length c.args.todo.now) links early (Ok tt) c.in-ok-triangulate.ensures.checked;
+      checked = all_areas c.args.n (length c.args.sides.now) (length c.args.pieces.now) (length c.args.todo.now) links early (Ok tt) c.in_ok-triangulate.ensures.checked;
       left = laid_out c.args.n links c.args.sides.now c.triangulate.new.sides c.divide.new.sides c.args.pieces.now c.divide.new.pieces w.least w.most
-          c.in-ok-triangulate.ensures.left o.2 (o.1 (front_filled c.args.n c.triangulate.new.sides w.least w.most c.in-ok-triangulate.ensures.left.triangulated));
+          c.in_ok-triangulate.ensures.left o.2 (o.1 (front_filled c.args.n c.triangulate.new.sides w.least w.most c.in_ok-triangulate.ensures.left.triangulated));
     }
 
 pub returns-in-Err : goal.returns-in-Err
 returns-in-Err c =
     let links = c.args.links.now in
-    let w = room c.args.n (length c.args.sides.now) (length c.args.pieces.now) (length c.args.todo.now) links (c.in-ok-check-room.ensures links) in
+    let w = room c.args.n (length c.args.sides.now) (length c.args.pieces.now) (length c.args.todo.now) links (c.in_ok-check_room.ensures links) in
     absurd
     (never_undivided c.args.n c.in-Err.field-0 c.triangulate.new.sides c.divide.new.sides c.args.pieces.now c.args.todo.now c.divide.new.pieces
-    w.least w.most w.pieces w.list c.in-ok-triangulate.ensures.left.triangulated c.in-Err.ensures)
+    w.least w.most w.pieces w.list c.in_ok-triangulate.ensures.left.triangulated c.in-Err.ensures)

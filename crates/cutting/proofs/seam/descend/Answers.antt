@@ -8,13 +8,13 @@ use Rattle.cutting.proofs.seam.descend.Goals as goal
 pub returns-then-weight-most : goal.returns-then-weight-most
 returns-then-weight-most c =
     let len = lengths c.args.sides.now in
-    let w = weight len c.args.by-holes (listed c.args.holes) in
+    let w = weight len c.args.by_holes (listed c.args.holes) in
     sym (descend_stops len w c.args.most c.loop-i.v (c.args.steps - c.loop-i.i) (omega (arith, c.weight.ensures))) ∙ c.loop-i.invariant
 
 pub loop-i-preserved : goal.loop-i-preserved
 loop-i-preserved c =
     let len = lengths c.args.sides.now in
-    let w = weight len c.args.by-holes (listed c.args.holes) in
+    let w = weight len c.args.by_holes (listed c.args.holes) in
     let m = c.args.most in
     let v = c.loop-i.v in
     let left = c.args.steps - (c.loop-i.i + 1) in
@@ -27,6 +27,6 @@ loop-i-preserved c =
 pub returns : goal.returns
 returns c =
     let len = lengths c.args.sides.now in
-    let w = weight len c.args.by-holes (listed c.args.holes) in
+    let w = weight len c.args.by_holes (listed c.args.holes) in
     let none : 0 ≡ c.args.steps - c.loop-i.i = omega arith in
     sym (descend_none len w c.args.most c.loop-i.v) ∙ ap (λ f. descend len w c.args.most f c.loop-i.v) none ∙ c.loop-i.invariant

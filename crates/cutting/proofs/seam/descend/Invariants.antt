@@ -7,5 +7,5 @@ use Rattle.cutting.proofs.seam.descend.Given as goal
 -- what is left of the way down leads to the same side
 abbrev pub invariant-loop-i : goal.invariant-loop-i
 invariant-loop-i l =
-    descend (lengths l.sides) (weight (lengths l.sides) l.by-holes (listed l.holes)) l.most (l.steps - l.i) l.v
-    ≡ descend (lengths l.sides) (weight (lengths l.sides) l.by-holes (listed l.holes)) l.most l.steps l.from
+    descend (lengths l.sides) (weight (lengths l.sides) l.by_holes (listed l.holes)) l.most (l.steps - l.i) l.v
+    ≡ descend (lengths l.sides) (weight (lengths l.sides) l.by_holes (listed l.holes)) l.most l.steps l.from

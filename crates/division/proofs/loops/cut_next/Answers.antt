@@ -23,24 +23,24 @@ returns c =
     let len = lengths c.args.sides.now in
     let P = c.in-Some.piece in
     let p = c.args.p in
-    let F = c.first-part-first.result in
-    let first : F ≡ first_of len p P = c.first-part-first.ensures ∙ ap (first_part len p P) c.seam-of-seam.ensures in
+    let F = c.first_part-first.result in
+    let first : F ≡ first_of len p P = c.first_part-first.ensures ∙ ap (first_part len p P) c.seam_of-seam.ensures in
     let made : c.parted.result ≡ cut_record e p P =
     c.parted.ensures
-    ∙ ap (λ (v : ℕ). parted e p P v c.triangles-size.result) c.seam-of-seam.ensures
+    ∙ ap (λ (v : ℕ). parted e p P v c.triangles-size.result) c.seam_of-seam.ensures
     ∙ ap (parted e p P (seam_in len P)) (c.triangles-size.ensures ∙ ap (size len) first) in
     record {
       turn = turn_cut e p c.args.pieces.now c.args.todo.now.items.now c.args.todo.now.len P
           c.pop.new.self.len c.pop.new.self.items.now o.popped
-          c.triangles.result c.parted.result F c.second-part.result c.wait.result c.wait.new.todo.len c.wait.new.todo.items.now
+          c.triangles.result c.parted.result F c.second_part.result c.wait.result c.wait.new.todo.len c.wait.new.todo.items.now
           c.triangles.ensures c.if-triangles-le1.false made first
-          (c.second-part.ensures ∙ ap (second_part len p P) c.seam-of-seam.ensures) c.wait.ensures.both;
+          (c.second_part.ensures ∙ ap (second_part len p P) c.seam_of-seam.ensures) c.wait.ensures.both;
       held = c.wait.ensures.held ∙ o.held;
     }
 
-pub returns-in-default : goal.returns-in-default
-returns-in-default c =
-    let o = c.in-default.ensures in
+pub returns-in_default : goal.returns-in_default
+returns-in_default c =
+    let o = c.in_default.ensures in
     record {
       turn = turn_none (ends_of c.args.sides.now) c.args.p c.args.pieces.now c.args.todo.now.items.now c.args.todo.now.len c.pop.new.self.items.now c.pop.new.self.len (inl o.popped.none);
       held = o.held;

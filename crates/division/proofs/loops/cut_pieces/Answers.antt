@@ -11,7 +11,7 @@ use Rattle.division.proofs.loops.cut_pieces.Goals as goal
 pub loop-p-init : goal.loop-p-init
 loop-p-init c =
     let put = pushed_ok c.push.result c.new-waiting.result.len c.new-waiting.result.items.now c.whole.result c.push.new.self.len c.push.new.self.items.now
-    c.if-is-err.ensures.value c.push.ensures.pushed in (
+    c.if-is_err.ensures.value c.push.ensures.pushed in (
       refl,
       λ n f. (
         f.list_room,
@@ -20,12 +20,12 @@ loop-p-init c =
       ),
     )
 
-pub returns-then-not-cut-next : goal.returns-then-not-cut-next
-returns-then-not-cut-next c =
+pub returns-then-not-cut_next : goal.returns-then-not-cut_next
+returns-then-not-cut_next c =
     let e = ends_of c.args.sides.now in
-    let t = c.if-not-cut-next.ensures.turn in
+    let t = c.if-not-cut_next.ensures.turn in
     let put = pushed_ok c.push.result c.new-waiting.result.len c.new-waiting.result.items.now c.whole.result c.push.new.self.len c.push.new.self.items.now
-    c.if-is-err.ensures.value c.push.ensures.pushed in
+    c.if-is_err.ensures.value c.push.ensures.pushed in
     record {
       cut = λ n f.
           let g = refit n e c.args.count c.args.pieces.now c.new-waiting.result.items.now c.args.todo.now c.new-waiting.result.len c.whole.result c.push.new.self.len c.push.new.self.items.now c.new-waiting.ensures.same put f in
@@ -38,7 +38,7 @@ returns-then-not-cut-next c =
 pub loop-p-preserved : goal.loop-p-preserved
 loop-p-preserved c =
     let e = ends_of c.args.sides.now in
-    let t = c.if-not-cut-next.ensures.turn in (
+    let t = c.if-not-cut_next.ensures.turn in (
       past_turn e c.loop-p.p c.args.count c.loop-p.pieces c.loop-p.waiting.items.now c.loop-p.waiting.len _ _ _ _ t c.loop-p-test.true ∙ c.loop-p.invariant.0,
       λ n f.
           let u = c.loop-p.invariant.1 n f in
@@ -50,7 +50,7 @@ pub returns : goal.returns
 returns c =
     let e = ends_of c.args.sides.now in
     let put = pushed_ok c.push.result c.new-waiting.result.len c.new-waiting.result.items.now c.whole.result c.push.new.self.len c.push.new.self.items.now
-    c.if-is-err.ensures.value c.push.ensures.pushed in
+    c.if-is_err.ensures.value c.push.ensures.pushed in
     record {
       cut = λ n f.
           let g = refit n e c.args.count c.args.pieces.now c.new-waiting.result.items.now c.args.todo.now c.new-waiting.result.len c.whole.result c.push.new.self.len c.push.new.self.items.now c.new-waiting.ensures.same put f in

@@ -11,7 +11,7 @@ loop-p-init c = refl
 pub loop-p-preserved : goal.loop-p-preserved
 unfolding mark_all
 loop-p-preserved c =
-    c.mark-piece.ensures
-    ∙ ap (mark_piece c.loop-p.sides c.loop-p.p) c.piece-at.ensures
+    c.mark_piece.ensures
+    ∙ ap (mark_piece c.loop-p.sides c.loop-p.p) c.piece_at.ensures
     ∙ ap (λ (ss : List Side). mark_piece ss c.loop-p.p (piece_at c.args.pieces.now c.loop-p.p)) c.loop-p.invariant
     ∙ ap (mark_all c.args.sides.now c.args.pieces.now) (sym (add-one c.loop-p.p))

@@ -9,12 +9,12 @@ loop-i-init g c k l = absurd (omega arith)
 pub loop-i-preserved : goal.loop-i-preserved
 loop-i-preserved g c =
     lane_rates_more g.R.Rate.kind g.met.R.Rate.laws g.R.Rate.means c.args.lanes.now c.loop-i.i
-    c.index-lanes-i.result c.is-lane-rate.result c.loop-i-test.true c.index-lanes-i.is c.is-lane-rate.ensures c.if-not-is-lane-rate.false c.loop-i.invariant
+    c.index-lanes-i.result c.is_lane_rate.result c.loop-i-test.true c.index-lanes-i.is c.is_lane_rate.ensures c.if-not-is_lane_rate.false c.loop-i.invariant
 
-pub returns-then-not-is-lane-rate : goal.returns-then-not-is-lane-rate
-returns-then-not-is-lane-rate g c =
+pub returns-then-not-is_lane_rate : goal.returns-then-not-is_lane_rate
+returns-then-not-is_lane_rate g c =
     first_no_lane g.R.Rate.kind g.met.R.Rate.laws g.R.Rate.means c.args.lanes.now c.loop-i.i
-    c.index-lanes-i.result c.is-lane-rate.result c.loop-i-test.true c.index-lanes-i.is c.is-lane-rate.ensures c.if-not-is-lane-rate.true c.loop-i.invariant
+    c.index-lanes-i.result c.is_lane_rate.result c.loop-i-test.true c.index-lanes-i.is c.is_lane_rate.ensures c.if-not-is_lane_rate.true c.loop-i.invariant
 
 pub returns : goal.returns
 returns g c k l =

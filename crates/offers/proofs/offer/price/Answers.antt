@@ -11,23 +11,23 @@ returns-in-None g c =
     let lanes = map g.R.Rate.means c.args.lanes.now in
     let n = length-map c.args.lanes.now g.R.Rate.means in
     let o : Offer K lanes = record {
-      some = omega (arith, n, eqb-false (length c.args.lanes.now) 0 (sym c.if-is-empty.ensures));
+      some = omega (arith, n, eqb-false (length c.args.lanes.now) 0 (sym c.if-is_empty.ensures));
       not_too_many = omega (arith, n);
       lane_rates = c.in-None.ensures;
     } in
-    (o, c.join-all.ensures (offer_is_exact K g.met.R.Rate.laws lanes o))
+    (o, c.join_all.ensures (offer_is_exact K g.met.R.Rate.laws lanes o))
 
-pub returns-then-is-empty : goal.returns-then-is-empty
-returns-then-is-empty g c =
-    length-map c.args.lanes.now g.R.Rate.means ∙ eqb-true (length c.args.lanes.now) 0 (sym c.if-is-empty.ensures)
+pub returns-then-is_empty : goal.returns-then-is_empty
+returns-then-is_empty g c =
+    length-map c.args.lanes.now g.R.Rate.means ∙ eqb-true (length c.args.lanes.now) 0 (sym c.if-is_empty.ensures)
 
-pub returns-then-lanes-gt-MOST-LANES : goal.returns-then-lanes-gt-MOST-LANES
-returns-then-lanes-gt-MOST-LANES g c = omega (arith, length-map c.args.lanes.now g.R.Rate.means)
+pub returns-then-lanes-gt-MOST_LANES : goal.returns-then-lanes-gt-MOST_LANES
+returns-then-lanes-gt-MOST_LANES g c = omega (arith, length-map c.args.lanes.now g.R.Rate.means)
 
 pub returns-in-Some : goal.returns-in-Some
 returns-in-Some g c =
     let n = length-map c.args.lanes.now g.R.Rate.means in (
-      omega (arith, n, eqb-false (length c.args.lanes.now) 0 (sym c.if-is-empty.ensures)),
+      omega (arith, n, eqb-false (length c.args.lanes.now) 0 (sym c.if-is_empty.ensures)),
       omega (arith, n),
       c.in-Some.ensures,
     )

@@ -8,4 +8,4 @@ returns-then-k-ge-SHEET g c =
 
 pub returns : goal.returns
 returns g c =
-    c.rate-at.ensures ∙ cell_there g.R.Rate.kind (map g.R.Rate.means c.args.sheets.now) c.args.p c.args.i c.args.j (omega arith)
+    c.rate_at.ensures ∙ cell_there g.R.Rate.kind (map g.R.Rate.means c.args.sheets.now) c.args.p c.args.i c.args.j (omega arith)

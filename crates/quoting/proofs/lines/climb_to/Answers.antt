@@ -23,8 +23,8 @@ loop-preserved g c n m u h r s =
     let f = g.R.Rate.means in
     let a = c.args.areas in
     climb_turn g.R.Rate.kind g.met.R.Rate.laws n m a.sides.now a.pieces.now (map f a.lanes.now) (map f a.sheets.now) h
-    c.args.stop c.args.from u c.loop.p c.step-from-step.result.up c.loop.counter c.args.into (shown f c.loop.reached) (shown f c.climb-reached.result) c.step-from-step.result
-    (c.loop.invariant n m u h r s) c.if-p-stop.false c.step-from-step.ensures refl (eight_long f c.climb-reached.result) c.climb-reached.ensures
+    c.args.stop c.args.from u c.loop.p c.step_from-step.result.up c.loop.counter c.args.into (shown f c.loop.reached) (shown f c.climb-reached.result) c.step_from-step.result
+    (c.loop.invariant n m u h r s) c.if-p-stop.false c.step_from-step.ensures refl (eight_long f c.climb-reached.result) c.climb-reached.ensures
 
 pub returns : goal.returns
 returns g c n m u h r s =

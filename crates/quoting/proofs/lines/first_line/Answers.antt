@@ -9,16 +9,16 @@ returns-then-i-len g c n lanes h l begins =
     let m = g.R.Rate.means in
     let a = c.args.areas in
     line_by_sheet g.R.Rate.kind g.met.R.Rate.laws n lanes a.sides.now a.pieces.now (map m a.lanes.now) (map m a.sheets.now) h
-    c.args.p c.args.u c.place-of-i.result c.piece-at-piece.result c.args.into (shown m c.sheet-line.result) l
-    c.piece-at-piece.ensures c.place-of-i.ensures (omega (arith, c.len.ensures.is)) (eight_long m c.sheet-line.result) c.sheet-line.ensures
+    c.args.p c.args.u c.place_of-i.result c.piece_at-piece.result c.args.into (shown m c.sheet_line.result) l
+    c.piece_at-piece.ensures c.place_of-i.ensures (omega (arith, c.len.ensures.is)) (eight_long m c.sheet_line.result) c.sheet_line.ensures
 
 pub returns-else-i-len : goal.returns-else-i-len
 returns-else-i-len g c n lanes h l begins =
     let m = g.R.Rate.means in
     let a = c.args.areas in
-    let t = c.triangle-on.result in
+    let t = c.triangle_on.result in
     first_triangle g.R.Rate.kind g.met.R.Rate.laws n lanes a.sides.now a.pieces.now (map m a.lanes.now) (map m a.sheets.now) h
-    c.args.p c.piece-at-piece.result c.piece-at-piece.ensures l
-    t.low t.third t.high (m t.left.up) (m t.left.down) (m t.right.up) (m t.right.down) (m t.base.up) (m t.base.down) c.triangle-on.ensures
-    c.args.into c.args.u c.place-of-i.result (shown m c.triangle-line.result) begins c.place-of-i.ensures (omega (arith, c.len.ensures.is))
-    (eight_long m c.triangle-line.result) c.triangle-line.ensures
+    c.args.p c.piece_at-piece.result c.piece_at-piece.ensures l
+    t.low t.third t.high (m t.left.up) (m t.left.down) (m t.right.up) (m t.right.down) (m t.base.up) (m t.base.down) c.triangle_on.ensures
+    c.args.into c.args.u c.place_of-i.result (shown m c.triangle_line.result) begins c.place_of-i.ensures (omega (arith, c.len.ensures.is))
+    (eight_long m c.triangle_line.result) c.triangle_line.ensures

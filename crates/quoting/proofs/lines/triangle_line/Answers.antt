@@ -14,5 +14,5 @@ returns g c w =
     let E = listed c.args.edges in
     let lanes = corner_lanes K t.low t.third t.high (m t.left.up) (m t.left.down) (m t.right.up) (m t.right.down) (m t.base.up) (m t.base.down) in
     eight K.none (λ k. cond (ltb k (length E)) (turned c.args.into (triangle_entry K t.low t.third t.high lanes) c.args.u (get_or E k 0)) K.none)
-    (c.triangle-place.ensures w) (c.triangle-place-2.ensures w) (c.triangle-place-3.ensures w) (c.triangle-place-4.ensures w)
-    (c.triangle-place-5.ensures w) (c.triangle-place-6.ensures w) (c.triangle-place-7.ensures w) (c.triangle-place-8.ensures w)
+    (c.triangle_place.ensures w) (c.triangle_place-2.ensures w) (c.triangle_place-3.ensures w) (c.triangle_place-4.ensures w)
+    (c.triangle_place-5.ensures w) (c.triangle_place-6.ensures w) (c.triangle_place-7.ensures w) (c.triangle_place-8.ensures w)

@@ -11,12 +11,12 @@ returns-then-from-to g c n m h l tu tv =
     still_best g.R.Rate.kind g.met.R.Rate.laws n m a.sides.now a.pieces.now (map f a.lanes.now) (map f a.sheets.now) h
     c.args.stop c.args.from c.args.to (f c.still.result) c.if-from-to.true c.still.ensures
 
-pub returns-then-ends-there : goal.returns-then-ends-there
-returns-then-ends-there g c n m h l tu tv =
-    c.joined-rate.ensures n m h (c.parting-below-p.ensures n h.stands.filled h.stands.division l tu tv)
-    (subst (λ x. Ending x c.args.from c.args.to) c.piece-at.ensures (c.ends-there.ensures.0 c.if-ends-there.true))
+pub returns-then-ends_there : goal.returns-then-ends_there
+returns-then-ends_there g c n m h l tu tv =
+    c.joined_rate.ensures n m h (c.parting_below-p.ensures n h.stands.filled h.stands.division l tu tv)
+    (subst (λ x. Ending x c.args.from c.args.to) c.piece_at.ensures (c.ends_there.ensures.0 c.if-ends_there.true))
 
-pub returns-else-ends-there : goal.returns-else-ends-there
-returns-else-ends-there g c n m h l tu tv =
-    c.parted-rate.ensures n m h (c.parting-below-p.ensures n h.stands.filled h.stands.division l tu tv)
-    (λ e. denied c.ends-there.ensures c.if-ends-there.false (subst (λ x. Ending x c.args.from c.args.to) (sym c.piece-at.ensures) e))
+pub returns-else-ends_there : goal.returns-else-ends_there
+returns-else-ends_there g c n m h l tu tv =
+    c.parted_rate.ensures n m h (c.parting_below-p.ensures n h.stands.filled h.stands.division l tu tv)
+    (λ e. denied c.ends_there.ensures c.if-ends_there.false (subst (λ x. Ending x c.args.from c.args.to) (sym c.piece_at.ensures) e))

@@ -11,11 +11,11 @@ returns g c wr wc wa =
     let row = shown m c.args.row in
     let sheets = map m c.args.sheets.now in
     let s = c.args.step in
-    let low = m c.to-end-low.result in
-    let high = m c.to-end-high.result in
-    let is_low = c.to-end-low.ensures wr wa in
-    let is_high = c.to-end-high.ensures wr wa in
-    by_seam_same K row (shown m c.args.column) sheets s c.args.there low high (m c.by-line.result) is_low is_high
-    (c.by-line.ensures wc
+    let low = m c.to_end-low.result in
+    let high = m c.to_end-high.result in
+    let is_low = c.to_end-low.ensures wr wa in
+    let is_high = c.to_end-high.ensures wr wa in
+    by_seam_same K row (shown m c.args.column) sheets s c.args.there low high (m c.by_line.result) is_low is_high
+    (c.by_line.ensures wc
     (to_end_size K X row sheets s.across.piece false (s.own.low, s.across.low) (s.own.high, s.across.high) low wr wa is_low)
     (to_end_size K X row sheets s.across.piece false (s.own.high, s.across.high) (s.own.low, s.across.low) high wr wa is_high))

@@ -13,19 +13,19 @@ returns g c n m h w apart =
     let p = c.args.p in
     let u = c.args.from in
     let v = c.args.to in
-    let own = c.child-towards-own.result in
-    let near = c.step-from-near.result in
+    let own = c.child_towards-own.result in
+    let near = c.step_from-near.result in
     let across = near.across.piece in
-    let row = shown f c.line-at-row.result in
-    let column = shown f c.line-at-column.result in
-    let q = parted_there K X n m a.sides.now a.pieces.now (map f a.lanes.now) (map f a.sheets.now) h c.args.stop p u v own c.piece-at.result near w apart
-    c.piece-at.ensures c.child-towards-own.ensures c.step-from-near.ensures in
-    let kr = c.line-at-row.ensures n m h q.0.own_in_range q.0.own_touches in
-    let kc = c.line-at-column.ensures n m h q.0.across_in_range q.0.across_touches in
-    c.pass-to.ensures n m u v h w.reaches_first w.reaches_second
+    let row = shown f c.line_at-row.result in
+    let column = shown f c.line_at-column.result in
+    let q = parted_there K X n m a.sides.now a.pieces.now (map f a.lanes.now) (map f a.sheets.now) h c.args.stop p u v own c.piece_at.result near w apart
+    c.piece_at.ensures c.child_towards-own.ensures c.step_from-near.ensures in
+    let kr = c.line_at-row.ensures n m h q.0.own_in_range q.0.own_touches in
+    let kc = c.line_at-column.ensures n m h q.0.across_in_range q.0.across_touches in
+    c.pass_to.ensures n m u v h w.reaches_first w.reaches_second
     (row_parted K X n m a.sides.now a.pieces.now (map f a.lanes.now) (map f a.sheets.now) h p u v own across q.0 q.1
-    row (shown f c.climb.result) near kr c.step-from-near.ensures (eight_long f c.climb.result) c.climb.ensures)
+    row (shown f c.climb.result) near kr c.step_from-near.ensures (eight_long f c.climb.result) c.climb.ensures)
     (column_parted K X n m a.sides.now a.pieces.now (map f a.lanes.now) (map f a.sheets.now) h p u v own across q.0 q.1
-    column (shown f c.climb-2.result) c.step-from-far.result kc c.step-from-far.ensures (eight_long f c.climb-2.result) c.climb-2.ensures)
+    column (shown f c.climb-2.result) c.step_from-far.result kc c.step_from-far.ensures (eight_long f c.climb-2.result) c.climb-2.ensures)
     (best_parted K X n m a.sides.now a.pieces.now (map f a.lanes.now) (map f a.sheets.now) h p u v own across q.0 q.1
-    row column near (f c.by-seam.result) kr kc c.step-from-near.ensures c.by-seam.ensures)
+    row column near (f c.by_seam.result) kr kc c.step_from-near.ensures c.by_seam.ensures)

@@ -6,15 +6,15 @@ use Rattle.quoting.proofs.walks.start_below.Goals as goal
 pub loop-init : goal.loop-init
 loop-init c n fl d l t = descent_starts n (ends_of c.args.sides.now) c.args.pieces.now c.args.p c.args.u l t
 
-pub returns-then-ends-there : goal.returns-then-ends-there
-returns-then-ends-there c n fl d l t =
-    begins_there n (ends_of c.args.sides.now) c.args.pieces.now c.args.p c.args.u c.loop.q c.loop.counter c.piece-at-piece.result
-    (c.loop.invariant n fl d l t) c.piece-at-piece.ensures (c.ends-there.ensures.0 c.if-ends-there.true)
+pub returns-then-ends_there : goal.returns-then-ends_there
+returns-then-ends_there c n fl d l t =
+    begins_there n (ends_of c.args.sides.now) c.args.pieces.now c.args.p c.args.u c.loop.q c.loop.counter c.piece_at-piece.result
+    (c.loop.invariant n fl d l t) c.piece_at-piece.ensures (c.ends_there.ensures.0 c.if-ends_there.true)
 
 pub loop-preserved : goal.loop-preserved
 loop-preserved c n fl d l t =
-    descent_turn n (ends_of c.args.sides.now) c.args.pieces.now c.args.p fl d c.args.u c.loop.q c.loop.counter c.child-towards-q.result c.piece-at-piece.result
-    (c.loop.invariant n fl d l t) c.piece-at-piece.ensures (denied c.ends-there.ensures c.if-ends-there.false) c.child-towards-q.ensures
+    descent_turn n (ends_of c.args.sides.now) c.args.pieces.now c.args.p fl d c.args.u c.loop.q c.loop.counter c.child_towards-q.result c.piece_at-piece.result
+    (c.loop.invariant n fl d l t) c.piece_at-piece.ensures (denied c.ends_there.ensures c.if-ends_there.false) c.child_towards-q.ensures
 
 pub returns : goal.returns
 returns c n fl d l t =

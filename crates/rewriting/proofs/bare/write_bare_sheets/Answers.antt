@@ -19,12 +19,12 @@ loop-p-preserved g c =
     let m = g.R.Rate.means in
     let p = c.loop-p.p in
     let ps = c.args.pieces.now in
-    let sheet = c.write-bare-sheet.new.sheet in
+    let sheet = c.write_bare_sheet.new.sheet in
     let room : 64 * p + 64 ≤ length c.loop-p.sheets = omega (arith, c.min-most.ensures, c.loop-p-test.true, c.loop-p.auto.sheets) in
-    let size : length sheet ≡ 64 = omega (arith, c.write-bare-sheet.auto.sheet) in (
+    let size : length sheet ≡ 64 = omega (arith, c.write_bare_sheet.auto.sheet) in (
       drop-put_mid (64 * p) (64 * p + 64 - 64 * p) c.loop-p.sheets sheet (64 * c.min-most.result) (omega (arith, c.loop-p-test.true)) (omega arith) (omega arith) ∙ c.loop-p.invariant.0,
       sheets_next K m (λ q k. bare_place K (length (listed (piece_at ps q).edges)) k) c.loop-p.sheets sheet p (64 * p + 64 - 64 * p) room size c.loop-p.invariant.1
-          (λ k l. c.write-bare-sheet.ensures k l ∙ ap (λ (P : Piece). bare_place K (length (listed P.edges)) k) (get_or_default ps p _ whole (omega (arith, c.min-most.ensures, c.loop-p-test.true)))),
+          (λ k l. c.write_bare_sheet.ensures k l ∙ ap (λ (P : Piece). bare_place K (length (listed P.edges)) k) (get_or_default ps p _ whole (omega (arith, c.min-most.ensures, c.loop-p-test.true)))),
     )
 
 written : (g : Rattle.rewriting.proofs.bare.write_bare_sheets.Given.Over) (c : goal.After-loop-p g) → BareSheets g.R.Rate.kind c.args.pieces.now (map g.R.Rate.means c.loop-p.sheets)

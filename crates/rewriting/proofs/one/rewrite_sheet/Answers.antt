@@ -7,9 +7,9 @@ returns g c =
     let K = g.R.Rate.kind in
     let m = g.R.Rate.means in
     record {
-      only = c.put-sheet.ensures.only;
-      kept = c.sheet-into.ensures.kept;
+      only = c.put_sheet.ensures.only;
+      kept = c.sheet_into.ensures.kept;
       shown = λ n lanes h parts r.
           copied_shows K m n lanes c.args.sides.now c.args.pieces.now (map m c.args.lanes.now) c.args.sheets.now h c.args.p r
-          c.sheet-into.new.sheet c.put-sheet.new.sheets c.put-sheet.ensures.there (c.sheet-into.ensures.shows n lanes h parts r c.requires.0);
+          c.sheet_into.new.sheet c.put_sheet.new.sheets c.put_sheet.ensures.there (c.sheet_into.ensures.shows n lanes h parts r c.requires.0);
     }

@@ -14,23 +14,23 @@ returns-then-piece-eq0 g c =
     let K = g.R.Rate.kind in
     let m = g.R.Rate.means in
     let e = ends_of c.args.sides.now in
-    let is = c.piece-at-piece.ensures in
+    let is = c.piece_at-piece.ensures in
     record {
       shows = λ n lanes h parts r wide.
-          subst (λ (P : Piece). SheetShows K n e P lanes (map m c.write-leaf.new.sheet)) is
-          (c.write-leaf.ensures.shows n lanes wide
+          subst (λ (P : Piece). SheetShows K n e P lanes (map m c.write_leaf.new.sheet)) is
+          (c.write_leaf.ensures.shows n lanes wide
           (subst (λ (P : Piece). LeafStands K n e lanes P (map m c.args.lanes.now)) (sym is)
           (leaf_stands K n lanes c.args.sides.now c.args.pieces.now (map m c.args.lanes.now) (map m c.args.sheets.now) h c.args.p r
           (sym (ap (λ (P : Piece). P.first) is) ∙ c.if-piece-eq0.true))));
-      kept = c.write-leaf.ensures.kept;
+      kept = c.write_leaf.ensures.kept;
     }
 
 pub returns-then-sheets-a : goal.returns-then-sheets-a
 returns-then-sheets-a g c =
     let K = g.R.Rate.kind in
     let m = g.R.Rate.means in
-    let is = c.piece-at-piece.ensures in
-    let P = c.piece-at-piece.result in
+    let is = c.piece_at-piece.ensures in
+    let P = c.piece_at-piece.result in
     let many = length c.args.sheets.now in
     record {
       shows = λ n lanes h parts r wide.
@@ -48,7 +48,7 @@ pub returns : goal.returns
 returns g c =
     let K = g.R.Rate.kind in
     let m = g.R.Rate.means in
-    let P = c.piece-at-piece.result in
+    let P = c.piece_at-piece.result in
     let sheets = c.args.sheets.now in
     let many = length sheets in
     let a = 64 * P.first in
@@ -56,8 +56,8 @@ returns g c =
     record {
       shows = λ n lanes h parts r wide.
           parent_shown K m n lanes c.args.sides.now c.args.pieces.now (map m c.args.lanes.now) sheets h c.args.p r
-          (map m c.write-parent.new.sheet) P c.cut-of.result parts c.piece-at-piece.ensures c.cut-of.ensures c.if-piece-eq0.false
-          (c.write-parent.ensures.shows n (ends_of c.args.sides.now) lanes wide
+          (map m c.write_parent.new.sheet) P c.cut_of.result parts c.piece_at-piece.ensures c.cut_of.ensures c.if-piece-eq0.false
+          (c.write_parent.ensures.shows n (ends_of c.args.sides.now) lanes wide
           (omega (arith, length-take (a + 64 - a) (drop a sheets))) (omega (arith, length-take (b + 64 - b) (drop b sheets))));
-      kept = c.write-parent.ensures.kept;
+      kept = c.write_parent.ensures.kept;
     }

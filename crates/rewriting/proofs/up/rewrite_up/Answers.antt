@@ -33,8 +33,8 @@ refused wide many from h s = ⊎_elim (λ t. omega (arith, h.0)) (λ t. omega (a
 pub loop-k-init : goal.loop-k-init
 loop-k-init g c = (at_start c.args.pieces.now c.args.from c.args.sheets.now c.args.work.now, λ n m h r off. off)
 
-pub rewrite-sheet-requires : goal.rewrite-sheet-requires
-rewrite-sheet-requires g c =
+pub rewrite_sheet-requires : goal.rewrite_sheet-requires
+rewrite_sheet-requires g c =
     let h = room (length c.args.work.now) (length c.args.sheets.now) c.args.from c.if-work-sheets.false in
     (omega (arith, h.0, c.loop-k.auto.work), omega (arith, h.1, c.loop-k.auto.sheets, c.loop-k.invariant.0.no_higher))
 
@@ -48,12 +48,12 @@ returns-in-None g c =
     let stop = none_climbs (climbs ps p) (piece_at ps p).parent c.in-None.ensures in
     let few : k < 41 = omega (arith, c.loop-k-test.true) in
     record {
-      rewritten = λ _ _. stops ps c.args.from c.args.sheets.now c.args.work.now k p c.loop-k.sheets c.loop-k.work c.rewrite-sheet.new.sheets c.rewrite-sheet.new.work
-          c.loop-k.invariant.0 few c.rewrite-sheet.ensures.only c.rewrite-sheet.ensures.kept stop;
+      rewritten = λ _ _. stops ps c.args.from c.args.sheets.now c.args.work.now k p c.loop-k.sheets c.loop-k.work c.rewrite_sheet.new.sheets c.rewrite_sheet.new.work
+          c.loop-k.invariant.0 few c.rewrite_sheet.ensures.only c.rewrite_sheet.ensures.kept stop;
       refused = λ s. absurd (refused (length c.args.work.now) (length c.args.sheets.now) c.args.from (room (length c.args.work.now) (length c.args.sheets.now) c.args.from c.if-work-sheets.false) s);
       shown = λ n lanes _ h r off.
-          none_left K m n lanes c.args.sides.now ps (map m c.args.lanes.now) c.args.sheets.now c.loop-k.sheets c.rewrite-sheet.new.sheets c.args.from p k
-          h c.loop-k.auto.sheets r c.loop-k.invariant.0.no_higher few (c.loop-k.invariant.1 n lanes h r off) c.rewrite-sheet.ensures.only (c.rewrite-sheet.ensures.shown n lanes) stop;
+          none_left K m n lanes c.args.sides.now ps (map m c.args.lanes.now) c.args.sheets.now c.loop-k.sheets c.rewrite_sheet.new.sheets c.args.from p k
+          h c.loop-k.auto.sheets r c.loop-k.invariant.0.no_higher few (c.loop-k.invariant.1 n lanes h r off) c.rewrite_sheet.ensures.only (c.rewrite_sheet.ensures.shown n lanes) stop;
     }
 
 pub loop-k-preserved : goal.loop-k-preserved
@@ -65,11 +65,11 @@ loop-k-preserved g c =
     let k = c.loop-k.k in
     let up = some_climbs (climbs ps p) c.in-Some.parent (piece_at ps p).parent c.in-Some.ensures in
     let few : k < 41 = omega (arith, c.loop-k-test.true) in (
-      goes_on ps c.args.from c.args.sheets.now c.args.work.now k p c.loop-k.sheets c.loop-k.work c.rewrite-sheet.new.sheets c.rewrite-sheet.new.work
-          c.loop-k.invariant.0 few c.rewrite-sheet.ensures.only c.rewrite-sheet.ensures.kept c.in-Some.parent up.0 up.1,
+      goes_on ps c.args.from c.args.sheets.now c.args.work.now k p c.loop-k.sheets c.loop-k.work c.rewrite_sheet.new.sheets c.rewrite_sheet.new.work
+          c.loop-k.invariant.0 few c.rewrite_sheet.ensures.only c.rewrite_sheet.ensures.kept c.in-Some.parent up.0 up.1,
       λ n lanes h r off.
-          above_left K m n lanes c.args.sides.now ps (map m c.args.lanes.now) c.args.sheets.now c.loop-k.sheets c.rewrite-sheet.new.sheets c.args.from p k
-          h c.loop-k.auto.sheets r c.loop-k.invariant.0.no_higher few (c.loop-k.invariant.1 n lanes h r off) c.rewrite-sheet.ensures.only (c.rewrite-sheet.ensures.shown n lanes) c.in-Some.parent up.0 up.1,
+          above_left K m n lanes c.args.sides.now ps (map m c.args.lanes.now) c.args.sheets.now c.loop-k.sheets c.rewrite_sheet.new.sheets c.args.from p k
+          h c.loop-k.auto.sheets r c.loop-k.invariant.0.no_higher few (c.loop-k.invariant.1 n lanes h r off) c.rewrite_sheet.ensures.only (c.rewrite_sheet.ensures.shown n lanes) c.in-Some.parent up.0 up.1,
     )
 
 pub returns : goal.returns

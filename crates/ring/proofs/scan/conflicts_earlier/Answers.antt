@@ -11,5 +11,5 @@ loop-j-init c = found_none (λ k. Conflict (ends_at c.args.links.now c.args.i) (
 pub loop-j-preserved : goal.loop-j-preserved
 loop-j-preserved c =
     found_more (λ k. Conflict (ends_at c.args.links.now c.args.i) (ends_at c.args.links.now k))
-    c.loop-j.j c.loop-j.found (c.same-ends.result || c.crosses.result) c.loop-j.invariant
-    (Decides-or c.same-ends.result c.crosses.result c.same-ends.ensures c.crosses.ensures)
+    c.loop-j.j c.loop-j.found (c.same_ends.result || c.crosses.result) c.loop-j.invariant
+    (Decides-or c.same_ends.result c.crosses.result c.same_ends.ensures c.crosses.ensures)

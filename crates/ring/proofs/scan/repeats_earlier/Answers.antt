@@ -9,4 +9,4 @@ loop-j-init c = found_none (λ k. SameLink (ends_at c.args.links.now c.args.i) (
 pub loop-j-preserved : goal.loop-j-preserved
 loop-j-preserved c =
     found_more (λ k. SameLink (ends_at c.args.links.now c.args.i) (ends_at c.args.links.now k))
-    c.loop-j.j c.loop-j.found c.same-ends-found.result c.loop-j.invariant c.same-ends-found.ensures
+    c.loop-j.j c.loop-j.found c.same_ends-found.result c.loop-j.invariant c.same_ends-found.ensures

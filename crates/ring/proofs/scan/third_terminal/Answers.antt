@@ -10,8 +10,8 @@ pub loop-link-preserved : goal.loop-link-preserved
 loop-link-preserved c =
     subst (λ (m : ℕ). ThirdSoFar c.args.links.now c.args.low c.args.high (c.loop-link.link-index + 1) m) (sym c.max-third.ensures)
     (third_more c.args.links.now c.args.low c.args.high c.loop-link.link-index c.loop-link.third
-    c.joined-with-end.result c.if-end-high.candidate c.loop-link-test.true c.loop-link.invariant
-    c.joined-with-end.ensures.only c.joined-with-end.ensures.joined
+    c.joined_with-end.result c.if-end-high.candidate c.loop-link-test.true c.loop-link.invariant
+    c.joined_with-end.ensures.only c.joined_with-end.ensures.joined
     (elim c.if-end-high.branch [ then-end-high w ↦ inl (w.if-end-high.true, w.candidate-is) | else-end-high w ↦ inr (w.if-end-high.false, w.candidate-is) ]))
 
 pub returns : goal.returns

@@ -9,5 +9,5 @@ returns g c n m best h tu tv =
     let S = c.args.seam in
     across_is g.R.Rate.kind g.met.R.Rate.laws n m a.sides.now a.pieces.now (map means a.lanes.now) (map means a.sheets.now) best S.piece S.low S.high h
     c.args.first c.args.low c.args.part.from c.args.part.to c.end-end.result
-    (means c.child-rate-out.result) (means c.child-rate-on.result) (means c.join.result) c.end-end.ensures tu tv
-    (c.child-rate-out.ensures n m best h) (c.child-rate-on.ensures n m best h) c.join.ensures
+    (means c.child_rate-out.result) (means c.child_rate-on.result) (means c.join.result) c.end-end.ensures tu tv
+    (c.child_rate-out.ensures n m best h) (c.child_rate-on.ensures n m best h) c.join.ensures

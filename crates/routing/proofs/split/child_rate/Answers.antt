@@ -18,7 +18,7 @@ returns g c n m best h tu tv =
     let ps = a.pieces.now in
     let u = c.args.u in
     let v = c.args.v in
-    let b = subst (λ (q : ℕ). q + 5 < 2 * n → Touches n e (piece_at ps q) u → Touches n e (piece_at ps q) v → BestRate K (piece_lanes K n e (piece_at ps q) m) u v (means c.best-within.result))
-    c.child.ensures (c.best-within.ensures n m h.rated.in_order) in
-    child_rate_is K X n m a.sides.now ps (map means a.lanes.now) (map means a.sheets.now) best S.piece S.low S.high h c.args.first u v (means c.best-within.result) tu tv
+    let b = subst (λ (q : ℕ). q + 5 < 2 * n → Touches n e (piece_at ps q) u → Touches n e (piece_at ps q) v → BestRate K (piece_lanes K n e (piece_at ps q) m) u v (means c.best_within.result))
+    c.child.ensures (c.best_within.ensures n m h.rated.in_order) in
+    child_rate_is K X n m a.sides.now ps (map means a.lanes.now) (map means a.sheets.now) best S.piece S.low S.high h c.args.first u v (means c.best_within.result) tu tv
     (b (in_child K X n m a.sides.now ps (map means a.lanes.now) (map means a.sheets.now) best S.piece S.low S.high h c.args.first) tu tv)

@@ -9,6 +9,6 @@ returns g c n m best h tu tv =
     let S = c.args.seam in
     round_is g.R.Rate.kind g.met.R.Rate.laws n m a.sides.now a.pieces.now (map means a.lanes.now) (map means a.sheets.now) best S.piece S.low S.high h
     c.args.first c.args.low c.args.part.from c.args.part.to c.end-near.result c.end-far.result
-    (means c.child-rate-out.result) (means c.child-rate-across.result) (means c.child-rate-back.result) (means c.join.result) (means c.join-2.result)
+    (means c.child_rate-out.result) (means c.child_rate-across.result) (means c.child_rate-back.result) (means c.join.result) (means c.join-2.result)
     c.end-near.ensures c.end-far.ensures tu tv
-    (c.child-rate-out.ensures n m best h) (c.child-rate-across.ensures n m best h) (c.child-rate-back.ensures n m best h) c.join.ensures c.join-2.ensures
+    (c.child_rate-out.ensures n m best h) (c.child_rate-across.ensures n m best h) (c.child_rate-back.ensures n m best h) c.join.ensures c.join-2.ensures

@@ -20,7 +20,7 @@ returns-then-together g c n m best h tu tv =
     let t = sym c.together.ensures ∙ c.if-together.true in
     let both = and_parts (lies S.low S.high (home S.low S.high u v) u) (lies S.low S.high (home S.low S.high u v) v) (home_has_both S.low S.high u v t) in
     let at = lies_touches K X n m a.sides.now a.pieces.now (map means a.lanes.now) (map means a.sheets.now) best S.piece S.low S.high h first in
-    c.split-together.ensures n m best h
+    c.split_together.ensures n m best h
     (at u tu (ap (λ (b : Bool). lies S.low S.high b u) z ∙ both.0))
     (at v tv (ap (λ (b : Bool). lies S.low S.high b v) z ∙ both.1))
     ∙ ap (λ (b : Bool). split_together K best S.piece S.low S.high u v b) z
@@ -40,7 +40,7 @@ returns-else-together g c n m best h tu tv =
     let t = sym c.together.ensures ∙ c.if-together.false in
     let apart = home_has_first S.low S.high u v t in
     let at = lies_touches K X n m a.sides.now a.pieces.now (map means a.lanes.now) (map means a.sheets.now) best S.piece S.low S.high h in
-    c.split-across.ensures n m best h
+    c.split_across.ensures n m best h
     (at first u tu (ap (λ (b : Bool). lies S.low S.high b u) z ∙ apart.0))
     (at (not first) v tv (ap (λ (b : Bool). lies S.low S.high (not b) v) z ∙ apart.1))
     ∙ ap (λ (b : Bool). split_across K best S.piece S.low S.high u v b) z

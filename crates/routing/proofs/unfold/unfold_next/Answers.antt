@@ -9,13 +9,13 @@ returns-then-piece-eq0 g c =
     let a = c.args.areas in
     let k = c.args.todo.now.len in
     let items = c.args.todo.now.items.now in
-    let T = c.triangle-on-t.result in
+    let T = c.triangle_on-t.result in
     record {
       turn = λ n m best s t r left rated below room h.
           triangle_turn g.R.Rate.kind g.met.R.Rate.laws n m a.sides.now a.pieces.now (map means a.lanes.now) (map means a.sheets.now) best rated s t r below
-          (part_of c.args.part) (waiting k items) left c.args.stops.now c.args.count c.piece-at-piece.result c.piece-at-piece.ensures c.if-piece-eq0.true
-          T.low T.third T.high (means T.left.up) (means T.left.down) (means T.right.up) (means T.right.down) (means T.base.up) (means T.base.down) c.triangle-on-t.ensures
-          c.pass-triangle.result c.pass-triangle.new.stops c.pass-triangle.ensures h;
+          (part_of c.args.part) (waiting k items) left c.args.stops.now c.args.count c.piece_at-piece.result c.piece_at-piece.ensures c.if-piece-eq0.true
+          T.low T.third T.high (means T.left.up) (means T.left.down) (means T.right.up) (means T.right.down) (means T.base.up) (means T.base.down) c.triangle_on-t.ensures
+          c.pass_triangle.result c.pass_triangle.new.stops c.pass_triangle.ensures h;
       same = refl;
       held = refl;
     }
@@ -29,8 +29,8 @@ returns g c =
     record {
       turn = λ n m best s t r left rated below room h.
           seam_turn g.R.Rate.kind g.met.R.Rate.laws n m a.sides.now a.pieces.now (map means a.lanes.now) (map means a.sheets.now) best rated s t r below
-          c.args.part k items left c.args.stops.now c.args.count c.piece-at-piece.result c.side-at-side.result c.piece-at-piece.ensures c.if-piece-eq0.false
-          c.side-at-side.ensures room c.split-parts.result (c.split-parts.ensures n m best) c.put-all.result c.put-all.new.todo.len c.put-all.new.todo.items.now c.put-all.ensures.put h;
-      same = c.put-all.ensures.put.same_length;
-      held = c.put-all.ensures.held;
+          c.args.part k items left c.args.stops.now c.args.count c.piece_at-piece.result c.side_at-side.result c.piece_at-piece.ensures c.if-piece-eq0.false
+          c.side_at-side.ensures room c.split-parts.result (c.split-parts.ensures n m best) c.put_all.result c.put_all.new.todo.len c.put_all.new.todo.items.now c.put_all.ensures.put h;
+      same = c.put_all.ensures.put.same_length;
+      held = c.put_all.ensures.held;
     }

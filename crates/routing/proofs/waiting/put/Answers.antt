@@ -8,7 +8,7 @@ returns c =
     let k = c.args.todo.now.len in
     let items = c.args.todo.now.items.now in
     record {
-      put = subst (λ r. Put r k items c.args.part c.push.new.self.len c.push.new.self.items.now) (sym c.is-ok.ensures.value)
+      put = subst (λ r. Put r k items c.args.part c.push.new.self.len c.push.new.self.items.now) (sym c.is_ok.ensures.value)
           (put_pushed items k c.args.part c.if-part.false c.push.result c.push.new.self.len c.push.new.self.items.now c.push.ensures.pushed);
       held = c.push.ensures.held;
     }

@@ -3,8 +3,8 @@ use Rattle.records.specs.Few.{listed}
 use Rattle.piece_rates.proofs.Places.{place_first, place_absent}
 use Rattle.sheets.proofs.parent.place_of.Goals as goal
 
-pub overflow-cast-result : goal.overflow-cast-result
-overflow-cast-result c = omega (arith, c.in-Some.ensures.inside)
+pub overflow_cast-result : goal.overflow_cast-result
+overflow_cast-result c = omega (arith, c.in-Some.ensures.inside)
 
 pub returns-in-Some : goal.returns-in-Some
 returns-in-Some c = sym (place_first (listed c.args.edges) c.args.terminal c.in-Some.k c.in-Some.ensures)

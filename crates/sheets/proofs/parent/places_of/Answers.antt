@@ -7,6 +7,6 @@ use Rattle.sheets.proofs.parent.places_of.Goals as goal
 pub loop-k-preserved : goal.loop-k-preserved
 loop-k-preserved c = (
   simp length-set c.loop-k.invariant.0,
-  fill_next (λ k. place (listed c.args.edges) (get_or (listed c.args.terminals) k 0)) c.loop-k.at c.loop-k.k c.place-of.result
-      (omega (arith, c.loop-k.invariant.0)) (c.place-of.ensures ∙ ap (place (listed c.args.edges)) c.get.ensures) c.loop-k.invariant.1,
+  fill_next (λ k. place (listed c.args.edges) (get_or (listed c.args.terminals) k 0)) c.loop-k.at c.loop-k.k c.place_of.result
+      (omega (arith, c.loop-k.invariant.0)) (c.place_of.ensures ∙ ap (place (listed c.args.edges)) c.get.ensures) c.loop-k.invariant.1,
 )

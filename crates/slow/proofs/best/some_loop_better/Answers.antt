@@ -3,8 +3,8 @@ use Rattle.slow.proofs.Places.{place_within}
 use Rattle.slow.proofs.Filling.{loop_found, no_loop_more}
 use Rattle.slow.proofs.best.some_loop_better.Goals as goal
 
-pub offset-bounds-table-n : goal.offset-bounds-table-n
-offset-bounds-table-n g c =
+pub offset_bounds-table-n : goal.offset_bounds-table-n
+offset_bounds-table-n g c =
     omega (arith, place_within c.args.n c.loop-u.u c.loop-u.u c.loop-u-test.true c.loop-u-test.true, c.requires.1)
 
 pub bounds-table-n : goal.bounds-table-n

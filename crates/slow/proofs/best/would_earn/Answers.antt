@@ -4,14 +4,14 @@ use Rattle.slow.proofs.Answering.{tested}
 use Rattle.slow.proofs.Places.{place_within, read_at}
 use Rattle.slow.proofs.best.would_earn.Goals as goal
 
-pub offset-bounds-table-n : goal.offset-bounds-table-n
-offset-bounds-table-n g c =
-    let h = c.in-default.ensures in
+pub offset_bounds-table-n : goal.offset_bounds-table-n
+offset_bounds-table-n g c =
+    let h = c.in_default.ensures in
     omega (arith, place_within c.args.n c.args.to c.args.from h.to_below h.from_below, h.square)
 
 pub bounds-table-n : goal.bounds-table-n
 bounds-table-n g c =
-    let h = c.in-default.ensures in
+    let h = c.in_default.ensures in
     omega (arith, place_within c.args.n c.args.to c.args.from h.to_below h.from_below, h.square)
 
 pub returns : goal.returns
@@ -24,9 +24,9 @@ returns g c =
     let to = c.args.to in
     let rate = m c.args.rate in
     let table = c.args.table.now in
-    let h = c.in-default.ensures in
+    let h = c.in_default.ensures in
     let back = read_at K m table (n * to + from) c.index-table-n.result (omega (arith, place_within n to from h.to_below h.from_below, h.square)) c.index-table-n.is in
-    let lane : K.lane rate ≡ true = sym c.is-lane-rate.ensures ∙ c.if-not-is-lane-rate.false in (
+    let lane : K.lane rate ≡ true = sym c.is_lane_rate.ensures ∙ c.if-not-is_lane_rate.false in (
       h,
       lane,
       λ area. tested K X n area (map m table) from to h.from_below h.to_below rate (m c.join.result) (m c.still.result) c.still.ensures lane

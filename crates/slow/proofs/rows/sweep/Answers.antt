@@ -15,12 +15,12 @@ loop-v-init g c u k bound h =
     let m = g.R.Rate.means in
     swept_none K g.met.R.Rate.laws (lane_map K c.args.n (map m c.args.lanes.now)) c.args.n u k (at K (map m c.args.row.now)) h
 
-pub offset-bounds-lanes-n : goal.offset-bounds-lanes-n
-offset-bounds-lanes-n g c =
+pub offset_bounds-lanes-n : goal.offset_bounds-lanes-n
+offset_bounds-lanes-n g c =
     omega (arith, rows_before c.args.n c.loop-v.v c.args.n c.loop-v-test.true, c.requires.0.square, length-map c.args.lanes.now g.R.Rate.means)
 
-pub slice-bounds-relax-from-end : goal.slice-bounds-relax-from-end
-slice-bounds-relax-from-end g c =
+pub slice_bounds-relax_from-end : goal.slice_bounds-relax_from-end
+slice_bounds-relax_from-end g c =
     let h : c.args.n * c.loop-v.v + c.args.n ≤ length c.args.lanes.now =
     omega (arith, rows_before c.args.n c.loop-v.v c.args.n c.loop-v-test.true, c.requires.0.square, length-map c.args.lanes.now g.R.Rate.means) in
     h
@@ -36,17 +36,17 @@ loop-v-preserved g c u k bound h =
     let below = c.loop-v-test.true in
     let out = between (n * v) (n * v + n) lanes in
     let now = at K (map m c.loop-v.row) in
-    let new = at K (map m c.relax-from-relaxed.new.row) in
-    let here = c.relax-from-relaxed.result in
+    let new = at K (map m c.relax_from-relaxed.new.row) in
+    let here = c.relax_from-relaxed.result in
     let changed = c.loop-v.changed in
     let base = m c.index-row-v.result in
-    let long : length c.relax-from-relaxed.new.row ≡ n = omega arith in
+    let long : length c.relax_from-relaxed.new.row ≡ n = omega arith in
     swept_more K X (lane_map K n (map m lanes)) n u k v (at K (map m c.args.row.now)) now new (at K (map m out)) base
     changed here (changed || here) c.requires.0.few.not_too_many below bound (lanes_small K X n (map m lanes) c.requires.0)
     (c.loop-v.invariant u k bound h)
     (sym (read_at K m c.loop-v.row v c.index-row-v.result (omega arith) c.index-row-v.is))
     (λ w l. row_reads K m lanes (n * v) n w l ∙ sym (lane_is_entry K X n (map m lanes) v w below l))
-    (subst (λ k. Relaxed K base (at K (map m out)) now new k here) long c.relax-from-relaxed.ensures)
+    (subst (λ k. Relaxed K base (at K (map m out)) now new k here) long c.relax_from-relaxed.ensures)
     (or_parts changed here) (or_cases changed here)
 
 pub returns : goal.returns

@@ -6,6 +6,6 @@ pub returns : goal.returns
 returns c =
     let xs = c.args.bytes.now in
     let i = c.args.at in
-    four_back (get_or xs i 0) (get_or xs (i + 1) 0) (get_or xs (i + 2) 0) (get_or xs (i + 3) 0) c.from-be-bytes.result
-    (search rules) (search rules) (search rules) (search rules) c.from-be-bytes.ensures
+    four_back (get_or xs i 0) (get_or xs (i + 1) 0) (get_or xs (i + 2) 0) (get_or xs (i + 3) 0) c.from_be_bytes.result
+    (search rules) (search rules) (search rules) (search rules) c.from_be_bytes.ensures
     ∙ sym (piece_four xs i c.requires)

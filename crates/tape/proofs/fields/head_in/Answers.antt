@@ -5,5 +5,5 @@ use Rattle.tape.proofs.fields.head_in.Goals as goal
 
 pub returns : goal.returns
 returns c =
-    head_pieces c.args.bytes.now (four c.four-at.result) (two c.two-at.result) (four c.four-at-2.result) (omega arith)
-    c.four-at.ensures c.two-at.ensures c.four-at-2.ensures
+    head_pieces c.args.bytes.now (four c.four_at.result) (two c.two_at.result) (four c.four_at-2.result) (omega arith)
+    c.four_at.ensures c.two_at.ensures c.four_at-2.ensures

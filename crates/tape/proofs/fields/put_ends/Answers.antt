@@ -8,5 +8,5 @@ pub returns : goal.returns
 returns c =
     let v = c.args.area.now in
     let at = c.args.at in
-    put_next v c.put-bytes.new.area c.put-bytes-2.new.area at _ (two c.args.e.from) (two c.args.e.to) c.to-be-bytes-2.result
-    (omega arith) refl (c.put-bytes.ensures ∙ ap (put_in v at) c.to-be-bytes.ensures) c.to-be-bytes-2.ensures c.put-bytes-2.ensures
+    put_next v c.put_bytes.new.area c.put_bytes-2.new.area at _ (two c.args.e.from) (two c.args.e.to) c.to_be_bytes-2.result
+    (omega arith) refl (c.put_bytes.ensures ∙ ap (put_in v at) c.to_be_bytes.ensures) c.to_be_bytes-2.ensures c.put_bytes-2.ensures

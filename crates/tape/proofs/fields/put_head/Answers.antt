@@ -10,11 +10,11 @@ returns c =
     let ks = c.args.h.rate_kind ∷ [] in
     let bs = four c.args.h.book in
     let ns = two c.args.h.terminals in
-    put_next v c.put-bytes-3.new.area c.put-bytes-4.new.area at _ (ks ++ bs ++ ns) (four c.args.h.meter) c.to-be-bytes-3.result
+    put_next v c.put_bytes-3.new.area c.put_bytes-4.new.area at _ (ks ++ bs ++ ns) (four c.args.h.meter) c.to_be_bytes-3.result
     (omega arith) refl
-    (put_next v c.put-bytes-2.new.area c.put-bytes-3.new.area at _ (ks ++ bs) ns c.to-be-bytes-2.result
+    (put_next v c.put_bytes-2.new.area c.put_bytes-3.new.area at _ (ks ++ bs) ns c.to_be_bytes-2.result
     (omega arith) refl
-    (put_next v c.put-bytes.new.area c.put-bytes-2.new.area at _ ks bs c.to-be-bytes.result
-    (omega arith) refl c.put-bytes.ensures c.to-be-bytes.ensures c.put-bytes-2.ensures)
-    c.to-be-bytes-2.ensures c.put-bytes-3.ensures)
-    c.to-be-bytes-3.ensures c.put-bytes-4.ensures
+    (put_next v c.put_bytes.new.area c.put_bytes-2.new.area at _ ks bs c.to_be_bytes.result
+    (omega arith) refl c.put_bytes.ensures c.to_be_bytes.ensures c.put_bytes-2.ensures)
+    c.to_be_bytes-2.ensures c.put_bytes-3.ensures)
+    c.to_be_bytes-3.ensures c.put_bytes-4.ensures

@@ -10,8 +10,8 @@ returns c =
     let at = c.args.at in
     let es = ends_bytes c.args.l.ends in
     let cs = four (bits c.args.l.cents) in
-    put_next v c.put-bytes.new.area c.put-bytes-2.new.area at _ (es ++ cs) (four c.args.l.tonnes) c.to-be-bytes-2.result
+    put_next v c.put_bytes.new.area c.put_bytes-2.new.area at _ (es ++ cs) (four c.args.l.tonnes) c.to_be_bytes-2.result
     (omega arith) refl
-    (put_next v c.put-ends.new.area c.put-bytes.new.area at _ es cs c.to-be-bytes.result
-    (omega arith) refl c.put-ends.ensures (c.to-be-bytes.ensures ∙ ap four (bits_through c.args.l.cents (search rules))) c.put-bytes.ensures)
-    c.to-be-bytes-2.ensures c.put-bytes-2.ensures
+    (put_next v c.put_ends.new.area c.put_bytes.new.area at _ es cs c.to_be_bytes.result
+    (omega arith) refl c.put_ends.ensures (c.to_be_bytes.ensures ∙ ap four (bits_through c.args.l.cents (search rules))) c.put_bytes.ensures)
+    c.to_be_bytes-2.ensures c.put_bytes-2.ensures

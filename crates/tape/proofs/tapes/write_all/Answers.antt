@@ -9,29 +9,29 @@ use Rattle.tape.proofs.RoundTrips.{read_from}
 use Rattle.tape.proofs.TapeBytes.{blank, tape_more, long_more, front_long, front_within}
 use Rattle.tape.proofs.tapes.write_all.Goals as goal
 
-pub slice-bounds-write-count : goal.slice-bounds-write-count
-slice-bounds-write-count c =
-    let within = front_within c.args.contents.now c.loop-content.content-index c.loop-content.at (length c.args.area.now) c.if-not-fit-in.ensures c.loop-content.invariant.0 in
+pub slice_bounds-write-count : goal.slice_bounds-write-count
+slice_bounds-write-count c =
+    let within = front_within c.args.contents.now c.loop-content.content-index c.loop-content.at (length c.args.area.now) c.if-not-fit_in.ensures c.loop-content.invariant.0 in
     let here : c.loop-content.at ≤ length c.loop-content.area = omega arith in
     search rules
 
-pub slice-bounds-write-start : goal.slice-bounds-write-start
-slice-bounds-write-start c =
-    let within = front_within c.args.contents.now c.loop-content.content-index c.loop-content.at (length c.args.area.now) c.if-not-fit-in.ensures c.loop-content.invariant.0 in
+pub slice_bounds-write-start : goal.slice_bounds-write-start
+slice_bounds-write-start c =
+    let within = front_within c.args.contents.now c.loop-content.content-index c.loop-content.at (length c.args.area.now) c.if-not-fit_in.ensures c.loop-content.invariant.0 in
     let here : c.loop-content.at ≤ length c.loop-content.area = omega arith in
     search rules
 
-pub returns-in-err-at : goal.returns-in-err-at
-returns-in-err-at c =
+pub returns-in_err-at : goal.returns-in_err-at
+returns-in_err-at c =
     let cs = c.args.contents.now in
     let i = c.loop-content.content-index in
     let at = c.loop-content.at in
     let before = c.args.area.now in
-    let fits = leb-true (length (tape_bytes cs)) (length before) (sym c.if-not-fit-in.ensures) in
-    let within = front_within cs i at (length before) c.if-not-fit-in.ensures c.loop-content.invariant.0 in
+    let fits = leb-true (length (tape_bytes cs)) (length before) (sym c.if-not-fit_in.ensures) in
+    let within = front_within cs i at (length before) c.if-not-fit_in.ensures c.loop-content.invariant.0 in
     let more = long_more cs i blank c.loop-content-test.true in
-    let past = refused_behind before c.loop-content.area (tape_bytes (take i cs)) (record_bytes (get_or cs i blank)) c.write.new.area at (length c.loop-content.area - at) c.in-err-at.field-0.0
-    c.loop-content.invariant.1 c.loop-content.invariant.0 within refl c.in-err-at.ensures in
+    let past = refused_behind before c.loop-content.area (tape_bytes (take i cs)) (record_bytes (get_or cs i blank)) c.write.new.area at (length c.loop-content.area - at) c.in_err-at.field-0.0
+    c.loop-content.invariant.1 c.loop-content.invariant.0 within refl c.in_err-at.ensures in
     absurd (omega (arith, c.loop-content.invariant.0, front_long cs (i + 1)))
 
 pub loop-content-preserved : goal.loop-content-preserved
@@ -39,12 +39,12 @@ loop-content-preserved c =
     let cs = c.args.contents.now in
     let i = c.loop-content.content-index in
     let at = c.loop-content.at in
-    let n = c.in-ok-at.field-0 in
+    let n = c.in_ok-at.field-0 in
     let front = tape_bytes (take i cs) in
     let bytes = record_bytes (get_or cs i blank) in
-    let s = c.in-ok-at.ensures in
-    let fits = leb-true (length (tape_bytes cs)) (length c.args.area.now) (sym c.if-not-fit-in.ensures) in
-    let within = front_within cs i at (length c.args.area.now) c.if-not-fit-in.ensures c.loop-content.invariant.0 in
+    let s = c.in_ok-at.ensures in
+    let fits = leb-true (length (tape_bytes cs)) (length c.args.area.now) (sym c.if-not-fit_in.ensures) in
+    let within = front_within cs i at (length c.args.area.now) c.if-not-fit_in.ensures c.loop-content.invariant.0 in
     let more = long_more cs i blank c.loop-content-test.true in
     let counted : at + n ≡ length (tape_bytes (take (i + 1) cs)) = omega (arith, c.loop-content.invariant.0, s.count) in (
       counted,
@@ -60,10 +60,10 @@ returns c =
     let all = take_all c.loop-content.content-index cs c.loop-content-test.false in
     let count : at ≡ length (tape_bytes cs) = c.loop-content.invariant.0 ∙ ap (λ v. length (tape_bytes v)) all in
     let area : c.loop-content.area ≡ tape_bytes cs ++ drop at before = c.loop-content.invariant.1 ∙ ap (λ v. tape_bytes v ++ drop at before) all in
-    let fits = leb-true (length (tape_bytes cs)) (length before) (sym c.if-not-fit-in.ensures) in
+    let fits = leb-true (length (tape_bytes cs)) (length before) (sym c.if-not-fit_in.ensures) in
     record {
       wrote = record { count = count; room = omega arith; area = area };
-      reads-back =
+      reads_back =
           subst (λ v. Means v (map part_of (placed 0 cs)) regular)
           (sym (ap (take at) area ∙ take_at (tape_bytes cs) (drop at before) at (sym count)))
           (read_from [] cs 0 refl);

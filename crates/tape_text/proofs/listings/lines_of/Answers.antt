@@ -16,10 +16,10 @@ loop-x-preserved c =
     let xs = c.args.records.now in
     let i = c.loop-x.x-index in
     let v = string_bytes c.loop-x.out in
-    let w = string_bytes c.push-str.new.self in
+    let w = string_bytes c.push_str.new.self in
     let one : w ≡ v ++ line_of (get_or xs i blank) =
-    c.in-ok-push-str.ensures.bytes ∙ ap (λ b. v ++ b) (c.as-str.ensures.value ∙ c.in-ok-line.ensures) in
-    lines_more xs i blank v w (string_bytes c.push-str-in-loop-x.new.self) c.loop-x-test.true c.loop-x.invariant one c.in-ok-push-str-2.ensures.bytes
+    c.in_ok-push_str.ensures.bytes ∙ ap (λ b. v ++ b) (c.as_str.ensures.value ∙ c.in_ok-line.ensures) in
+    lines_more xs i blank v w (string_bytes c.push_str-in-loop-x.new.self) c.loop-x-test.true c.loop-x.invariant one c.in_ok-push_str-2.ensures.bytes
 
 pub returns : goal.returns
 returns c =

@@ -21,8 +21,8 @@ returns c = λ h fits is.
     let p5 = cut_name c.cut-4.result.1.now c.cut-5.result.0.now c.cut-5.result.1.now (codes "terminals") count c.cut-5.ensures refl p4.1 in
     let p6 = cut_number c.cut-5.result.1.now c.cut-6.result.0.now c.cut-6.result.1.now h.terminals last c.cut-6.ensures (omega arith) p5.1 in
     let p7 = cut_name c.cut-6.result.1.now c.cut-7.result.0.now c.cut-7.result.1.now (codes "meter") (decimal h.meter) c.cut-7.ensures refl p6.1 in
-    let k : c.read-or.result ≡ h.rate_kind = c.read-or.ensures h.rate_kind (λ a r. reads_number 8 h.rate_kind c.cut-2.result.0.now (omega arith) fk p2.0 a r.0) in
-    let b : c.read-or-2.result ≡ h.book = c.read-or-2.ensures h.book (λ a r. reads_number 32 h.book c.cut-4.result.0.now (omega arith) fb p4.0 a r.0) in
-    let n : c.read-or-3.result ≡ h.terminals = c.read-or-3.ensures h.terminals (λ a r. reads_number 16 h.terminals c.cut-6.result.0.now (omega arith) fn p6.0 a r.0) in
-    let m : c.read-or-4.result ≡ h.meter = c.read-or-4.ensures h.meter (λ a r. reads_number 32 h.meter c.cut-7.result.1.now (omega arith) fm p7.1 a r.0) in
-    same_head c.read-or.result c.read-or-2.result c.read-or-3.result c.read-or-4.result h k b n m
+    let k : c.read_or.result ≡ h.rate_kind = c.read_or.ensures h.rate_kind (λ a r. reads_number 8 h.rate_kind c.cut-2.result.0.now (omega arith) fk p2.0 a r.0) in
+    let b : c.read_or-2.result ≡ h.book = c.read_or-2.ensures h.book (λ a r. reads_number 32 h.book c.cut-4.result.0.now (omega arith) fb p4.0 a r.0) in
+    let n : c.read_or-3.result ≡ h.terminals = c.read_or-3.ensures h.terminals (λ a r. reads_number 16 h.terminals c.cut-6.result.0.now (omega arith) fn p6.0 a r.0) in
+    let m : c.read_or-4.result ≡ h.meter = c.read_or-4.ensures h.meter (λ a r. reads_number 32 h.meter c.cut-7.result.1.now (omega arith) fm p7.1 a r.0) in
+    same_head c.read_or.result c.read_or-2.result c.read_or-3.result c.read_or-4.result h k b n m

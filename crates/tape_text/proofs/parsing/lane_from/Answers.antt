@@ -18,9 +18,9 @@ returns c = λ l h is.
     let p3 = cut_name c.cut-2.result.1.now c.cut-3.result.0.now c.cut-3.result.1.now (codes "cents") money c.cut-3.ensures refl p2.1 in
     let p4 = cut_signed c.cut-3.result.1.now c.cut-4.result.0.now c.cut-4.result.1.now l.cents last c.cut-4.ensures s p3.1 in
     let p5 = cut_name c.cut-4.result.1.now c.cut-5.result.0.now c.cut-5.result.1.now (codes "tonnes") (decimal l.tonnes) c.cut-5.ensures refl p4.1 in
-    let from : c.read-or.result ≡ l.ends.from = c.read-or.ensures l.ends.from (λ a r. reads_number 16 l.ends.from c.cut.result.0.now (omega arith) f p1.0 a r.0) in
-    let to : c.read-or-2.result ≡ l.ends.to = c.read-or-2.ensures l.ends.to (λ a r. reads_number 16 l.ends.to c.cut-2.result.0.now (omega arith) g p2.0 a r.0) in
-    let z : c.read-or-3.result ≡ l.cents = c.read-or-3.ensures l.cents (λ a r. reads_signed l.cents c.cut-4.result.0.now s p4.0 a r.0) in
-    let n : c.read-or-4.result ≡ l.tonnes = c.read-or-4.ensures l.tonnes (λ a r. reads_number 32 l.tonnes c.cut-5.result.1.now (omega arith) t p5.1 a r.0) in
-    let fit : SFits w32 c.read-or-3.result = search rules in
-    same_lane c.read-or.result c.read-or-2.result (to_z w32 (of_z w32 c.read-or-3.result)) c.read-or-4.result l from to (to_z-of_z w32 c.read-or-3.result fit ∙ z) n
+    let from : c.read_or.result ≡ l.ends.from = c.read_or.ensures l.ends.from (λ a r. reads_number 16 l.ends.from c.cut.result.0.now (omega arith) f p1.0 a r.0) in
+    let to : c.read_or-2.result ≡ l.ends.to = c.read_or-2.ensures l.ends.to (λ a r. reads_number 16 l.ends.to c.cut-2.result.0.now (omega arith) g p2.0 a r.0) in
+    let z : c.read_or-3.result ≡ l.cents = c.read_or-3.ensures l.cents (λ a r. reads_signed l.cents c.cut-4.result.0.now s p4.0 a r.0) in
+    let n : c.read_or-4.result ≡ l.tonnes = c.read_or-4.ensures l.tonnes (λ a r. reads_number 32 l.tonnes c.cut-5.result.1.now (omega arith) t p5.1 a r.0) in
+    let fit : SFits w32 c.read_or-3.result = search rules in
+    same_lane c.read_or.result c.read_or-2.result (to_z w32 (of_z w32 c.read_or-3.result)) c.read_or-4.result l from to (to_z-of_z w32 c.read_or-3.result fit ∙ z) n

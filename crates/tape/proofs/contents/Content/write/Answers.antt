@@ -8,6 +8,6 @@ pub returns-in-Head : goal.returns-in-Head
 returns-in-Head c =
     let area = c.args.area.now in
     let b = c.byte.result in
-    put_content c.args.self.now c.kind.result c.length-long.result b area c.put-head.new.area
+    put_content c.args.self.now c.kind.result c.length-long.result b area c.put_head.new.area
     c.kind.ensures c.length-long.ensures c.byte.ensures (omega arith)
-    (c.put-head.ensures ∙ ap (λ v. put_in (set area 0 b) 1 (body_of v)) (sym c.in-Head.is))
+    (c.put_head.ensures ∙ ap (λ v. put_in (set area 0 b) 1 (body_of v)) (sym c.in-Head.is))
