@@ -49,7 +49,7 @@ fn write_bare_sheet<R: Rate>(piece: Piece, sheet: &mut [R])
 pub fn write_bare_sheets<R: Rate>(pieces: &[Piece], sheets: &mut [R])
     ensures written { BareSheets R.kind pieces.now (map R.means sheets.new) }
     ensures behind { drop (64 * min (length pieces.now) (length sheets.old / 64)) sheets.new ≡ drop (64 * min (length pieces.now) (length sheets.old / 64)) sheets.old }
-    ensures shown { (n : ℕ) (e : Ends) (m : LaneMap Member) → NoLanes R.kind m → Division n e pieces.now → 2 * n ≤ length pieces.now + 5 → 64 * (2 * n) ≤ length sheets.old + 320 → AllShown R.kind n e pieces.now m (map R.means sheets.new) }
+    ensures shown { (n : ℕ) (e : Ends) (m : LaneMap R.Member) → NoLanes R.kind m → Division n e pieces.now → 2 * n ≤ length pieces.now + 5 → 64 * (2 * n) ≤ length sheets.old + 320 → AllShown R.kind n e pieces.now m (map R.means sheets.new) }
 {
     let most = pieces.len().min(sheets.len() / SHEET);
     for p in 0..most {

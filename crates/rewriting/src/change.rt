@@ -44,7 +44,7 @@ pub fn change_lane<R: Rate>(
 ) -> usize
     ensures rewritten { Room sides.now (length lanes.old) (length sheets.old) (length work.old) side → LaneRewritten sides.now pieces.now side back rate lanes.old sheets.old work.old result lanes.new sheets.new work.new }
     ensures refused { (Room sides.now (length lanes.old) (length sheets.old) (length work.old) side → ⊥) → (lanes.new ≡ lanes.old) × Untouched sheets.old work.old result sheets.new work.new }
-    ensures changed { (n : ℕ) (m : LaneMap Member) → 64 ≤ length work.old → InOrder R.kind n m sides.now pieces.now (map R.means lanes.old) (map R.means sheets.old) → MayChange R.kind n (ends_of sides.now) m side back (R.means rate) → LaneChanged R.kind n m sides.now pieces.now side back (R.means rate) (map R.means lanes.new) (map R.means sheets.old) (map R.means sheets.new) result }
+    ensures changed { (n : ℕ) (m : LaneMap R.Member) → 64 ≤ length work.old → InOrder R.kind n m sides.now pieces.now (map R.means lanes.old) (map R.means sheets.old) → MayChange R.kind n (ends_of sides.now) m side back (R.means rate) → LaneChanged R.kind n m sides.now pieces.now side back (R.means rate) (map R.means lanes.new) (map R.means sheets.old) (map R.means sheets.new) result }
 {
     let leaf = side_at(sides, side as u32).leaf;
     if !has_room(sides, lanes.len(), sheets.len(), work.len(), side, leaf) {

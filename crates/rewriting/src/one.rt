@@ -34,7 +34,7 @@ fn sheet_into<R: Rate>(
     p: u16,
     sheet: &mut [R],
 )
-    ensures shows { (n : ℕ) (m : LaneMap Member) → PlanStands R.kind n m sides.now pieces.now (map R.means lanes.now) (map R.means sheets.now) → PartsRight R.kind n (ends_of sides.now) pieces.now m (map R.means sheets.now) p → p + 5 < 2 * n → 64 ≤ length sheet.old → SheetShows R.kind n (ends_of sides.now) (piece_at pieces.now p) m (map R.means sheet.new) }
+    ensures shows { (n : ℕ) (m : LaneMap R.Member) → PlanStands R.kind n m sides.now pieces.now (map R.means lanes.now) (map R.means sheets.now) → PartsRight R.kind n (ends_of sides.now) pieces.now m (map R.means sheets.now) p → p + 5 < 2 * n → 64 ≤ length sheet.old → SheetShows R.kind n (ends_of sides.now) (piece_at pieces.now p) m (map R.means sheet.new) }
     ensures kept { drop 64 sheet.new ≡ drop 64 sheet.old }
 {
     let piece = piece_at(pieces, p);
@@ -77,7 +77,7 @@ pub(crate) fn rewrite_sheet<R: Rate>(
     requires { (64 ≤ length work.old) × (64 * p + 64 ≤ length sheets.old) }
     ensures only { OnlySheet p sheets.old sheets.new }
     ensures kept { drop 64 work.new ≡ drop 64 work.old }
-    ensures shown { (n : ℕ) (m : LaneMap Member) → PlanStands R.kind n m sides.now pieces.now (map R.means lanes.now) (map R.means sheets.old) → PartsRight R.kind n (ends_of sides.now) pieces.now m (map R.means sheets.old) p → p + 5 < 2 * n → PieceShown R.kind n (ends_of sides.now) pieces.now m (map R.means sheets.new) p }
+    ensures shown { (n : ℕ) (m : LaneMap R.Member) → PlanStands R.kind n m sides.now pieces.now (map R.means lanes.now) (map R.means sheets.old) → PartsRight R.kind n (ends_of sides.now) pieces.now m (map R.means sheets.old) p → p + 5 < 2 * n → PieceShown R.kind n (ends_of sides.now) pieces.now m (map R.means sheets.new) p }
 {
     sheet_into(sides, pieces, lanes, sheets, p, work);
     put_sheet(work, p, sheets);

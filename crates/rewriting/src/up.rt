@@ -24,7 +24,7 @@ pub fn rewrite_up<R: Rate>(
 ) -> usize
     ensures rewritten { 64 ≤ length work.old → 64 * from + 64 ≤ length sheets.old → WayRewritten pieces.now from sheets.old work.old result sheets.new work.new }
     ensures refused { (length work.old < 64) ⊎ (length sheets.old < 64 * from + 64) → Untouched sheets.old work.old result sheets.new work.new }
-    ensures shown { (n : ℕ) (m : LaneMap Member) → 64 ≤ length work.old → PlanStands R.kind n m sides.now pieces.now (map R.means lanes.now) (map R.means sheets.old) → from + 5 < 2 * n → OffWayShown R.kind n (ends_of sides.now) pieces.now m (map R.means sheets.old) 41 from → AllShown R.kind n (ends_of sides.now) pieces.now m (map R.means sheets.new) }
+    ensures shown { (n : ℕ) (m : LaneMap R.Member) → 64 ≤ length work.old → PlanStands R.kind n m sides.now pieces.now (map R.means lanes.now) (map R.means sheets.old) → from + 5 < 2 * n → OffWayShown R.kind n (ends_of sides.now) pieces.now m (map R.means sheets.old) 41 from → AllShown R.kind n (ends_of sides.now) pieces.now m (map R.means sheets.new) }
 {
     if (work.len() < SHEET) | (sheets.len() < SHEET * from as usize + SHEET) {
         return 0;

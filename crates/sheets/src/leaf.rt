@@ -143,7 +143,7 @@ fn leaf_at<R: Rate>(t: Triangle<R>, edges: Few, count: usize, k: usize) -> R
 
 // Writes the sheet of a piece of one triangle from the lane area. Nothing is written where the sheet is shorter than 64 rates.
 pub fn write_leaf<R: Rate>(sides: &[Side], lanes: &[R], piece: Piece, sheet: &mut [R])
-    ensures shows { (n : ℕ) (m : LaneMap Member) → 64 ≤ length sheet.old → LeafStands R.kind n (ends_of sides.now) m piece (map R.means lanes.now) → SheetShows R.kind n (ends_of sides.now) piece m (map R.means sheet.new) }
+    ensures shows { (n : ℕ) (m : LaneMap R.Member) → 64 ≤ length sheet.old → LeafStands R.kind n (ends_of sides.now) m piece (map R.means lanes.now) → SheetShows R.kind n (ends_of sides.now) piece m (map R.means sheet.new) }
     ensures kept { drop 64 sheet.new ≡ drop 64 sheet.old }
     ensures short { length sheet.old < 64 → sheet.new ≡ sheet.old }
 {

@@ -159,7 +159,7 @@ fn parent_row<R: Rate>(a: &[R], b: &[R], p: Part, q: Part, count: usize, i: usiz
 // Writes the sheet of a cut piece from those of its parts, of 64 rates each. Nothing is written where the sheet is shorter.
 pub fn write_parent<R: Rate>(cut: Cut, a: &[R], b: &[R], sheet: &mut [R])
     ensures written { 64 ≤ length sheet.old → Within R.kind (map R.means a.now) → Within R.kind (map R.means b.now) → ParentSheet R.kind cut.piece cut.first cut.second cut.low cut.high (map R.means a.now) (map R.means b.now) (map R.means sheet.new) }
-    ensures shows { (n : ℕ) (e : Ends) (m : LaneMap Member) → 64 ≤ length sheet.old → length a.now ≤ 64 → length b.now ≤ 64 → PartsShown R.kind n e m cut.piece cut.first cut.second cut.low cut.high (map R.means a.now) (map R.means b.now) → SheetShows R.kind n e cut.piece m (map R.means sheet.new) }
+    ensures shows { (n : ℕ) (e : Ends) (m : LaneMap R.Member) → 64 ≤ length sheet.old → length a.now ≤ 64 → length b.now ≤ 64 → PartsShown R.kind n e m cut.piece cut.first cut.second cut.low cut.high (map R.means a.now) (map R.means b.now) → SheetShows R.kind n e cut.piece m (map R.means sheet.new) }
     ensures kept { drop 64 sheet.new ≡ drop 64 sheet.old }
     ensures short { length sheet.old < 64 → sheet.new ≡ sheet.old }
 {
