@@ -109,7 +109,7 @@ fn triangle_line<R: Rate>(t: Triangle<R>, edges: Few, into: bool, u: u16) -> Lin
 
 // The line of the terminal u at a piece that has it as an edge terminal or is a single triangle.
 fn first_line<R: Rate>(areas: Areas<'_, R>, p: u16, into: bool, u: u16) -> Line<R>
-    ensures { (n : ℕ) (m : LaneMap Member) → InOrder R.kind n m areas.entry.sides.now areas.entry.pieces.now (map R.means areas.entry.lanes.now) (map R.means areas.entry.sheets.now) → p + 5 < 2 * n → ((piece_at areas.entry.pieces.now p).first ≡ 0) ⊎ Among u (listed (piece_at areas.entry.pieces.now p).edges) → LineShows R.kind n (ends_of areas.entry.sides.now) (piece_at areas.entry.pieces.now p) m into u (shown R.means result) }
+    ensures { (n : ℕ) (m : LaneMap R.Member) → InOrder R.kind n m areas.entry.sides.now areas.entry.pieces.now (map R.means areas.entry.lanes.now) (map R.means areas.entry.sheets.now) → p + 5 < 2 * n → ((piece_at areas.entry.pieces.now p).first ≡ 0) ⊎ Among u (listed (piece_at areas.entry.pieces.now p).edges) → LineShows R.kind n (ends_of areas.entry.sides.now) (piece_at areas.entry.pieces.now p) m into u (shown R.means result) }
 {
     let piece = piece_at(areas.pieces, p);
     let i = place_of(piece.edges, u);
@@ -244,7 +244,7 @@ fn climb_to<R: Rate>(
     into: bool,
     line: Line<R>,
 ) -> Line<R>
-    ensures { (n : ℕ) (m : LaneMap Member) (u : ℕ) → InOrder R.kind n m areas.entry.sides.now areas.entry.pieces.now (map R.means areas.entry.lanes.now) (map R.means areas.entry.sheets.now) → Reaches n (ends_of areas.entry.sides.now) areas.entry.pieces.now stop u from → LineShows R.kind n (ends_of areas.entry.sides.now) (piece_at areas.entry.pieces.now from) m into u (shown R.means line) → LineShows R.kind n (ends_of areas.entry.sides.now) (piece_at areas.entry.pieces.now stop) m into u (shown R.means result) }
+    ensures { (n : ℕ) (m : LaneMap R.Member) (u : ℕ) → InOrder R.kind n m areas.entry.sides.now areas.entry.pieces.now (map R.means areas.entry.lanes.now) (map R.means areas.entry.sheets.now) → Reaches n (ends_of areas.entry.sides.now) areas.entry.pieces.now stop u from → LineShows R.kind n (ends_of areas.entry.sides.now) (piece_at areas.entry.pieces.now from) m into u (shown R.means line) → LineShows R.kind n (ends_of areas.entry.sides.now) (piece_at areas.entry.pieces.now stop) m into u (shown R.means result) }
 {
     let mut p = from;
     let mut reached = line;
@@ -261,7 +261,7 @@ fn climb_to<R: Rate>(
 
 // The line of the terminal u at the piece p.
 pub(crate) fn line_at<R: Rate>(areas: Areas<'_, R>, p: u16, into: bool, u: u16) -> Line<R>
-    ensures { (n : ℕ) (m : LaneMap Member) → InOrder R.kind n m areas.entry.sides.now areas.entry.pieces.now (map R.means areas.entry.lanes.now) (map R.means areas.entry.sheets.now) → p + 5 < 2 * n → Touches n (ends_of areas.entry.sides.now) (piece_at areas.entry.pieces.now p) u → LineShows R.kind n (ends_of areas.entry.sides.now) (piece_at areas.entry.pieces.now p) m into u (shown R.means result) }
+    ensures { (n : ℕ) (m : LaneMap R.Member) → InOrder R.kind n m areas.entry.sides.now areas.entry.pieces.now (map R.means areas.entry.lanes.now) (map R.means areas.entry.sheets.now) → p + 5 < 2 * n → Touches n (ends_of areas.entry.sides.now) (piece_at areas.entry.pieces.now p) u → LineShows R.kind n (ends_of areas.entry.sides.now) (piece_at areas.entry.pieces.now p) m into u (shown R.means result) }
 {
     let start = start_below(areas.sides, areas.pieces, p, u);
     climb_to(areas, start, p, into, first_line(areas, start, into, u))

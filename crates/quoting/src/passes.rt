@@ -43,7 +43,7 @@ fn pass_to<R: Rate>(
     last: Line<R>,
     known: R,
 ) -> R
-    ensures { (n : ℕ) (m : LaneMap Member) (u v : ℕ) → InOrder R.kind n m areas.entry.sides.now areas.entry.pieces.now (map R.means areas.entry.lanes.now) (map R.means areas.entry.sheets.now) → Reaches n (ends_of areas.entry.sides.now) areas.entry.pieces.now stop u from → Reaches n (ends_of areas.entry.sides.now) areas.entry.pieces.now stop v from → LineShows R.kind n (ends_of areas.entry.sides.now) (piece_at areas.entry.pieces.now from) m false u (shown R.means first) → LineShows R.kind n (ends_of areas.entry.sides.now) (piece_at areas.entry.pieces.now from) m true v (shown R.means last) → BestRate R.kind (lanes_of R.kind n (ends_of areas.entry.sides.now) areas.entry.pieces.now m from) u v (R.means known) → BestRate R.kind (lanes_of R.kind n (ends_of areas.entry.sides.now) areas.entry.pieces.now m stop) u v (R.means result) }
+    ensures { (n : ℕ) (m : LaneMap R.Member) (u v : ℕ) → InOrder R.kind n m areas.entry.sides.now areas.entry.pieces.now (map R.means areas.entry.lanes.now) (map R.means areas.entry.sheets.now) → Reaches n (ends_of areas.entry.sides.now) areas.entry.pieces.now stop u from → Reaches n (ends_of areas.entry.sides.now) areas.entry.pieces.now stop v from → LineShows R.kind n (ends_of areas.entry.sides.now) (piece_at areas.entry.pieces.now from) m false u (shown R.means first) → LineShows R.kind n (ends_of areas.entry.sides.now) (piece_at areas.entry.pieces.now from) m true v (shown R.means last) → BestRate R.kind (lanes_of R.kind n (ends_of areas.entry.sides.now) areas.entry.pieces.now m from) u v (R.means known) → BestRate R.kind (lanes_of R.kind n (ends_of areas.entry.sides.now) areas.entry.pieces.now m stop) u v (R.means result) }
 {
     let mut p = from;
     let mut row = first;
@@ -64,7 +64,7 @@ fn pass_to<R: Rate>(
 
 // The best rate within a piece that has both terminals as edge terminals or is a single triangle.
 fn near_rate<R: Rate>(areas: Areas<'_, R>, p: u16, from: u16, to: u16) -> R
-    ensures { (n : ℕ) (m : LaneMap Member) → InOrder R.kind n m areas.entry.sides.now areas.entry.pieces.now (map R.means areas.entry.lanes.now) (map R.means areas.entry.sheets.now) → p + 5 < 2 * n → Ending (piece_at areas.entry.pieces.now p) from to → BestRate R.kind (lanes_of R.kind n (ends_of areas.entry.sides.now) areas.entry.pieces.now m p) from to (R.means result) }
+    ensures { (n : ℕ) (m : LaneMap R.Member) → InOrder R.kind n m areas.entry.sides.now areas.entry.pieces.now (map R.means areas.entry.lanes.now) (map R.means areas.entry.sheets.now) → p + 5 < 2 * n → Ending (piece_at areas.entry.pieces.now p) from to → BestRate R.kind (lanes_of R.kind n (ends_of areas.entry.sides.now) areas.entry.pieces.now m p) from to (R.means result) }
 {
     let piece = piece_at(areas.pieces, p);
     if both_on_edge(piece, from, to) {
@@ -82,7 +82,7 @@ fn near_rate<R: Rate>(areas: Areas<'_, R>, p: u16, from: u16, to: u16) -> R
 
 // The best rate at the piece `stop`, by way of a piece below it at which the way down towards both terminals ends.
 fn joined_rate<R: Rate>(areas: Areas<'_, R>, p: u16, stop: u16, from: u16, to: u16) -> R
-    ensures { (n : ℕ) (m : LaneMap Member) → InOrder R.kind n m areas.entry.sides.now areas.entry.pieces.now (map R.means areas.entry.lanes.now) (map R.means areas.entry.sheets.now) → Parts n (ends_of areas.entry.sides.now) areas.entry.pieces.now stop from to p → Ending (piece_at areas.entry.pieces.now p) from to → BestRate R.kind (lanes_of R.kind n (ends_of areas.entry.sides.now) areas.entry.pieces.now m stop) from to (R.means result) }
+    ensures { (n : ℕ) (m : LaneMap R.Member) → InOrder R.kind n m areas.entry.sides.now areas.entry.pieces.now (map R.means areas.entry.lanes.now) (map R.means areas.entry.sheets.now) → Parts n (ends_of areas.entry.sides.now) areas.entry.pieces.now stop from to p → Ending (piece_at areas.entry.pieces.now p) from to → BestRate R.kind (lanes_of R.kind n (ends_of areas.entry.sides.now) areas.entry.pieces.now m stop) from to (R.means result) }
 {
     let known = near_rate(areas, p, from, to);
     if p == stop {
@@ -95,7 +95,7 @@ fn joined_rate<R: Rate>(areas: Areas<'_, R>, p: u16, stop: u16, from: u16, to: u
 
 // The best rate at the piece `stop`, by way of a piece below it that is parted between the two terminals.
 fn parted_rate<R: Rate>(areas: Areas<'_, R>, p: u16, stop: u16, from: u16, to: u16) -> R
-    ensures { (n : ℕ) (m : LaneMap Member) → InOrder R.kind n m areas.entry.sides.now areas.entry.pieces.now (map R.means areas.entry.lanes.now) (map R.means areas.entry.sheets.now) → Parts n (ends_of areas.entry.sides.now) areas.entry.pieces.now stop from to p → (Ending (piece_at areas.entry.pieces.now p) from to → ⊥) → BestRate R.kind (lanes_of R.kind n (ends_of areas.entry.sides.now) areas.entry.pieces.now m stop) from to (R.means result) }
+    ensures { (n : ℕ) (m : LaneMap R.Member) → InOrder R.kind n m areas.entry.sides.now areas.entry.pieces.now (map R.means areas.entry.lanes.now) (map R.means areas.entry.sheets.now) → Parts n (ends_of areas.entry.sides.now) areas.entry.pieces.now stop from to p → (Ending (piece_at areas.entry.pieces.now p) from to → ⊥) → BestRate R.kind (lanes_of R.kind n (ends_of areas.entry.sides.now) areas.entry.pieces.now m stop) from to (R.means result) }
 {
     let own = child_towards(areas.sides, piece_at(areas.pieces, p), from);
     let near = step_from(areas.sides, areas.pieces, own);
@@ -114,7 +114,7 @@ fn parted_rate<R: Rate>(areas: Areas<'_, R>, p: u16, stop: u16, from: u16, to: u
 
 // The best rate of the trips from one terminal of the piece `stop` to another over the lanes of that piece.
 pub fn best_within<R: Rate>(areas: Areas<'_, R>, stop: u16, from: u16, to: u16) -> R
-    ensures { (n : ℕ) (m : LaneMap Member) → InOrder R.kind n m areas.entry.sides.now areas.entry.pieces.now (map R.means areas.entry.lanes.now) (map R.means areas.entry.sheets.now) → stop + 5 < 2 * n → Touches n (ends_of areas.entry.sides.now) (piece_at areas.entry.pieces.now stop) from → Touches n (ends_of areas.entry.sides.now) (piece_at areas.entry.pieces.now stop) to → BestRate R.kind (piece_lanes R.kind n (ends_of areas.entry.sides.now) (piece_at areas.entry.pieces.now stop) m) from to (R.means result) }
+    ensures { (n : ℕ) (m : LaneMap R.Member) → InOrder R.kind n m areas.entry.sides.now areas.entry.pieces.now (map R.means areas.entry.lanes.now) (map R.means areas.entry.sheets.now) → stop + 5 < 2 * n → Touches n (ends_of areas.entry.sides.now) (piece_at areas.entry.pieces.now stop) from → Touches n (ends_of areas.entry.sides.now) (piece_at areas.entry.pieces.now stop) to → BestRate R.kind (piece_lanes R.kind n (ends_of areas.entry.sides.now) (piece_at areas.entry.pieces.now stop) m) from to (R.means result) }
 {
     if from == to {
         return R::still();
@@ -129,7 +129,7 @@ pub fn best_within<R: Rate>(areas: Areas<'_, R>, stop: u16, from: u16, to: u16) 
 
 // The best rate of the trips from one terminal of the plan to another.
 pub fn best_rate<R: Rate>(areas: Areas<'_, R>, from: u16, to: u16) -> R
-    ensures { (n : ℕ) (m : LaneMap Member) → InOrder R.kind n m areas.entry.sides.now areas.entry.pieces.now (map R.means areas.entry.lanes.now) (map R.means areas.entry.sheets.now) → from < n → to < n → BestRate R.kind m from to (R.means result) }
+    ensures { (n : ℕ) (m : LaneMap R.Member) → InOrder R.kind n m areas.entry.sides.now areas.entry.pieces.now (map R.means areas.entry.lanes.now) (map R.means areas.entry.sheets.now) → from < n → to < n → BestRate R.kind m from to (R.means result) }
 {
     best_within(areas, 0, from, to)
 }

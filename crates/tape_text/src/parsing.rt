@@ -21,7 +21,7 @@ pub fn cut(text: &str, at: char) -> (&str, &str)
 fn read_or<T: FromStr + Drop>(text: &str, other: T) -> T
 where
     T::Err: Drop,
-    ensures { (x : T) → ((a : Result T T.Err) → from_str_gives text.now a → a ≡ Ok x) → result ≡ x }
+    ensures { (x : T) → ((a : Result T T.Err) → T.from_str_gives text.now a → a ≡ Ok x) → result ≡ x }
 {
     match text.parse::<T>() {
         Ok(x) => x,

@@ -35,7 +35,7 @@ loop-preserved g c n m u v h ru rv su sv b =
     let s = c.step_from-step.result in
     let ne = c.if-p-stop.false in (
       climb_turn K X n m a.sides.now a.pieces.now (map f a.lanes.now) (map f a.sheets.now) h c.args.stop c.args.from u c.loop.p s.up c.loop.counter false
-          (shown f c.loop.row) (shown f c.climb_row.result) s w.0 ne c.step_from-step.ensures refl (eight_long f c.climb_row.result) c.climb_row.ensures,
+          (shown f c.loop.row) (shown f c.climb-row.result) s w.0 ne c.step_from-step.ensures refl (eight_long f c.climb-row.result) c.climb-row.ensures,
       climb_turn K X n m a.sides.now a.pieces.now (map f a.lanes.now) (map f a.sheets.now) h c.args.stop c.args.from v c.loop.p s.up c.loop.counter true
           (shown f c.loop.column) (shown f c.climb-column.result) s w.1 ne c.step_from-step.ensures refl (eight_long f c.climb-column.result) c.climb-column.ensures,
       pass_turn K X n m a.sides.now a.pieces.now (map f a.lanes.now) (map f a.sheets.now) h c.args.stop c.args.from u v c.loop.p s.up c.loop.counter

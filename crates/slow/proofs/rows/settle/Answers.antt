@@ -18,7 +18,7 @@ returns-then-not-sweep g c u l h =
     let X = g.met.R.Rate.laws in
     let m = g.R.Rate.means in
     let n = c.args.n in
-    let i = c.loop-round.-round in
+    let i = c.loop-round._round in
     let area = map m c.args.lanes.now in
     let found = c.loop-round.invariant u l h in
     found_early K X (lane_map K n area) n u (lanes_below K X n area) i (at K (map m c.loop-round.row)) (at K (map m c.sweep.new.row)) c.sweep.result
@@ -31,7 +31,7 @@ loop-round-preserved g c u l h =
     let X = g.met.R.Rate.laws in
     let m = g.R.Rate.means in
     let n = c.args.n in
-    let i = c.loop-round.-round in
+    let i = c.loop-round._round in
     let area = map m c.args.lanes.now in
     let found = c.loop-round.invariant u l h in
     found_more K X (lane_map K n area) n u (lanes_below K X n area) i (at K (map m c.loop-round.row)) (at K (map m c.sweep.new.row)) c.sweep.result
@@ -41,6 +41,6 @@ pub returns : goal.returns
 returns g c =
     let K = g.R.Rate.kind in
     let m = g.R.Rate.means in
-    let all : c.loop-round.-round ≡ c.args.n = omega arith in
+    let all : c.loop-round._round ≡ c.args.n = omega arith in
     subst (λ k. Settles K (lane_map K c.args.n (map m c.args.lanes.now)) c.args.n k (at K (map m c.args.row.now)) (at K (map m c.loop-round.row)))
     all c.loop-round.invariant

@@ -15,7 +15,7 @@ loop-next-preserved c =
     let h = c.in-Ok.ensures in
     let s = shows_content t u p q c.in-Ok.next x c.loop-next.invariant.0 c.in-Some.is h.shows in
     let old = vec_items c.loop-next.records in
-    let grown : vec_items c.push.new.self ≡ old ++ x ∷ [] = pushed (x ∷ []) refl c.in_ok-push.was c.push.ensures.items in (
+    let grown : vec_items c.push.new.self ≡ old ++ x ∷ [] = pushed (x ∷ []) refl c.in_ok-push-in-Ok.was c.push.ensures.items in (
       h.tape ∙ c.loop-next.invariant.0,
       subst (Before t q) (sym (ap (map part_of) grown ∙ map_push part_of old x)) (one_more t p q (map part_of old) (part_of x) c.loop-next.invariant.1 s),
     )
