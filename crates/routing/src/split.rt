@@ -16,7 +16,7 @@ use rates::kind::Rate;
 
 // The best rate from u to v over the lanes of a child of the cut piece.
 fn child_rate<R: Rate>(areas: Areas<'_, R>, seam: Seam, first: bool, u: u16, v: u16) -> R
-    ensures { (n : ℕ) (m : LaneMap Member) (best : ℕ → ℕ → ℕ → Member) → AtSeam R.kind n m areas.entry.sides.now areas.entry.pieces.now (map R.means areas.entry.lanes.now) (map R.means areas.entry.sheets.now) best seam.piece seam.low seam.high → Touching n areas.entry.sides.now areas.entry.pieces.now seam.piece first u → Touching n areas.entry.sides.now areas.entry.pieces.now seam.piece first v → ChildRate R.kind best seam.piece first u v (R.means result) }
+    ensures { (n : ℕ) (m : LaneMap R.Member) (best : ℕ → ℕ → ℕ → R.Member) → AtSeam R.kind n m areas.entry.sides.now areas.entry.pieces.now (map R.means areas.entry.lanes.now) (map R.means areas.entry.sheets.now) best seam.piece seam.low seam.high → Touching n areas.entry.sides.now areas.entry.pieces.now seam.piece first u → Touching n areas.entry.sides.now areas.entry.pieces.now seam.piece first v → ChildRate R.kind best seam.piece first u v (R.means result) }
 {
     best_within(areas, seam.child(first), u, v)
 }
@@ -29,7 +29,7 @@ fn round_rate<R: Rate>(
     first: bool,
     low: bool,
 ) -> R
-    ensures { (n : ℕ) (m : LaneMap Member) (best : ℕ → ℕ → ℕ → Member) → AtSeam R.kind n m areas.entry.sides.now areas.entry.pieces.now (map R.means areas.entry.lanes.now) (map R.means areas.entry.sheets.now) best seam.piece seam.low seam.high → Touching n areas.entry.sides.now areas.entry.pieces.now seam.piece first part.from → Touching n areas.entry.sides.now areas.entry.pieces.now seam.piece first part.to → R.means result ≡ round_rate R.kind best seam.piece seam.low seam.high part.from part.to first low }
+    ensures { (n : ℕ) (m : LaneMap R.Member) (best : ℕ → ℕ → ℕ → R.Member) → AtSeam R.kind n m areas.entry.sides.now areas.entry.pieces.now (map R.means areas.entry.lanes.now) (map R.means areas.entry.sheets.now) best seam.piece seam.low seam.high → Touching n areas.entry.sides.now areas.entry.pieces.now seam.piece first part.from → Touching n areas.entry.sides.now areas.entry.pieces.now seam.piece first part.to → R.means result ≡ round_rate R.kind best seam.piece seam.low seam.high part.from part.to first low }
 {
     let near = seam.end(low);
     let far = seam.end(!low);
@@ -47,7 +47,7 @@ fn across_rate<R: Rate>(
     first: bool,
     low: bool,
 ) -> R
-    ensures { (n : ℕ) (m : LaneMap Member) (best : ℕ → ℕ → ℕ → Member) → AtSeam R.kind n m areas.entry.sides.now areas.entry.pieces.now (map R.means areas.entry.lanes.now) (map R.means areas.entry.sheets.now) best seam.piece seam.low seam.high → Touching n areas.entry.sides.now areas.entry.pieces.now seam.piece first part.from → Touching n areas.entry.sides.now areas.entry.pieces.now seam.piece (not first) part.to → R.means result ≡ across_rate R.kind best seam.piece seam.low seam.high part.from part.to first low }
+    ensures { (n : ℕ) (m : LaneMap R.Member) (best : ℕ → ℕ → ℕ → R.Member) → AtSeam R.kind n m areas.entry.sides.now areas.entry.pieces.now (map R.means areas.entry.lanes.now) (map R.means areas.entry.sheets.now) best seam.piece seam.low seam.high → Touching n areas.entry.sides.now areas.entry.pieces.now seam.piece first part.from → Touching n areas.entry.sides.now areas.entry.pieces.now seam.piece (not first) part.to → R.means result ≡ across_rate R.kind best seam.piece seam.low seam.high part.from part.to first low }
 {
     let end = seam.end(low);
     let out = child_rate(areas, seam, first, part.from, end);
@@ -105,7 +105,7 @@ fn across_parts(seam: Seam, part: RoutePart, first: bool, low: bool) -> Parts
 
 // Both terminals lie in one child: one part within it, unless going round by the other child is better.
 fn split_together<R: Rate>(areas: Areas<'_, R>, seam: Seam, part: RoutePart, first: bool) -> Parts
-    ensures { (n : ℕ) (m : LaneMap Member) (best : ℕ → ℕ → ℕ → Member) → AtSeam R.kind n m areas.entry.sides.now areas.entry.pieces.now (map R.means areas.entry.lanes.now) (map R.means areas.entry.sheets.now) best seam.piece seam.low seam.high → Touching n areas.entry.sides.now areas.entry.pieces.now seam.piece first part.from → Touching n areas.entry.sides.now areas.entry.pieces.now seam.piece first part.to → kept_all result [] ≡ split_together R.kind best seam.piece seam.low seam.high part.from part.to first }
+    ensures { (n : ℕ) (m : LaneMap R.Member) (best : ℕ → ℕ → ℕ → R.Member) → AtSeam R.kind n m areas.entry.sides.now areas.entry.pieces.now (map R.means areas.entry.lanes.now) (map R.means areas.entry.sheets.now) best seam.piece seam.low seam.high → Touching n areas.entry.sides.now areas.entry.pieces.now seam.piece first part.from → Touching n areas.entry.sides.now areas.entry.pieces.now seam.piece first part.to → kept_all result [] ≡ split_together R.kind best seam.piece seam.low seam.high part.from part.to first }
 {
     let by_low = round_rate(areas, seam, part, first, true);
     let by_high = round_rate(areas, seam, part, first, false);
@@ -120,7 +120,7 @@ fn split_together<R: Rate>(areas: Areas<'_, R>, seam: Seam, part: RoutePart, fir
 
 // The terminals lie in different children: by the seam's low end, unless by the high end is better.
 fn split_across<R: Rate>(areas: Areas<'_, R>, seam: Seam, part: RoutePart, first: bool) -> Parts
-    ensures { (n : ℕ) (m : LaneMap Member) (best : ℕ → ℕ → ℕ → Member) → AtSeam R.kind n m areas.entry.sides.now areas.entry.pieces.now (map R.means areas.entry.lanes.now) (map R.means areas.entry.sheets.now) best seam.piece seam.low seam.high → Touching n areas.entry.sides.now areas.entry.pieces.now seam.piece first part.from → Touching n areas.entry.sides.now areas.entry.pieces.now seam.piece (not first) part.to → kept_all result [] ≡ split_across R.kind best seam.piece seam.low seam.high part.from part.to first }
+    ensures { (n : ℕ) (m : LaneMap R.Member) (best : ℕ → ℕ → ℕ → R.Member) → AtSeam R.kind n m areas.entry.sides.now areas.entry.pieces.now (map R.means areas.entry.lanes.now) (map R.means areas.entry.sheets.now) best seam.piece seam.low seam.high → Touching n areas.entry.sides.now areas.entry.pieces.now seam.piece first part.from → Touching n areas.entry.sides.now areas.entry.pieces.now seam.piece (not first) part.to → kept_all result [] ≡ split_across R.kind best seam.piece seam.low seam.high part.from part.to first }
 {
     let by_low = across_rate(areas, seam, part, first, true);
     let by_high = across_rate(areas, seam, part, first, false);
@@ -129,7 +129,7 @@ fn split_across<R: Rate>(areas: Areas<'_, R>, seam: Seam, part: RoutePart, first
 
 // The parts that a part of a cut piece is split into.
 pub(crate) fn split<R: Rate>(areas: Areas<'_, R>, seam: Seam, part: RoutePart) -> Parts
-    ensures { (n : ℕ) (m : LaneMap Member) (best : ℕ → ℕ → ℕ → Member) → AtSeam R.kind n m areas.entry.sides.now areas.entry.pieces.now (map R.means areas.entry.lanes.now) (map R.means areas.entry.sheets.now) best seam.piece seam.low seam.high → Touches n (ends_of areas.entry.sides.now) seam.piece part.from → Touches n (ends_of areas.entry.sides.now) seam.piece part.to → kept_all result [] ≡ split_at R.kind best seam.piece seam.low seam.high part.from part.to }
+    ensures { (n : ℕ) (m : LaneMap R.Member) (best : ℕ → ℕ → ℕ → R.Member) → AtSeam R.kind n m areas.entry.sides.now areas.entry.pieces.now (map R.means areas.entry.lanes.now) (map R.means areas.entry.sheets.now) best seam.piece seam.low seam.high → Touches n (ends_of areas.entry.sides.now) seam.piece part.from → Touches n (ends_of areas.entry.sides.now) seam.piece part.to → kept_all result [] ≡ split_at R.kind best seam.piece seam.low seam.high part.from part.to }
 {
     let first = seam.home(part.from, part.to);
     if seam.together(part.from, part.to) {

@@ -23,7 +23,7 @@ pub fn best_trip<R: Rate>(
     to: u16,
     stops: &mut [u16],
 ) -> (usize, R)
-    ensures found { (n : ℕ) (m : LaneMap Member) → areas.entry.n ≡ n → InOrder R.kind n m areas.entry.sides.now areas.entry.pieces.now (map R.means areas.entry.lanes.now) (map R.means areas.entry.sheets.now) → from < n → to < n → 512 ≤ length todo.old → n ≤ length stops.old → BestTrip R.kind m from to result.0 (R.means result.1) stops.new }
+    ensures found { (n : ℕ) (m : LaneMap R.Member) → areas.entry.n ≡ n → InOrder R.kind n m areas.entry.sides.now areas.entry.pieces.now (map R.means areas.entry.lanes.now) (map R.means areas.entry.sheets.now) → from < n → to < n → 512 ≤ length todo.old → n ≤ length stops.old → BestTrip R.kind m from to result.0 (R.means result.1) stops.new }
     ensures kept { drop areas.entry.n stops.new ≡ drop areas.entry.n stops.old }
     ensures short { length stops.old < areas.entry.n → (result.0 ≡ 0) × (R.means result.1 ≡ R.kind.none) × (stops.new ≡ stops.old) }
 {

@@ -32,7 +32,7 @@ fn unfold_next<R: Rate>(
     stops: &mut [u16],
     count: usize,
 ) -> usize
-    ensures turn { (n : ℕ) (m : LaneMap Member) (best : ℕ → ℕ → ℕ → Member) (s t : ℕ) (r : Member) (left : ℕ) → Rated R.kind n m areas.entry.sides.now areas.entry.pieces.now (map R.means areas.entry.lanes.now) (map R.means areas.entry.sheets.now) best → s < n → 84 ≤ length todo.old.items.now → UnderWay R.kind n m (ends_of areas.entry.sides.now) areas.entry.pieces.now (map R.means areas.entry.lanes.now) best s t r (left + 1) (part_of part ∷ waiting todo.old.len todo.old.items.now) stops.old count → UnderWay R.kind n m (ends_of areas.entry.sides.now) areas.entry.pieces.now (map R.means areas.entry.lanes.now) best s t r left (waiting todo.new.len todo.new.items.now) stops.new result }
+    ensures turn { (n : ℕ) (m : LaneMap R.Member) (best : ℕ → ℕ → ℕ → R.Member) (s t : ℕ) (r : R.Member) (left : ℕ) → Rated R.kind n m areas.entry.sides.now areas.entry.pieces.now (map R.means areas.entry.lanes.now) (map R.means areas.entry.sheets.now) best → s < n → 84 ≤ length todo.old.items.now → UnderWay R.kind n m (ends_of areas.entry.sides.now) areas.entry.pieces.now (map R.means areas.entry.lanes.now) best s t r (left + 1) (part_of part ∷ waiting todo.old.len todo.old.items.now) stops.old count → UnderWay R.kind n m (ends_of areas.entry.sides.now) areas.entry.pieces.now (map R.means areas.entry.lanes.now) best s t r left (waiting todo.new.len todo.new.items.now) stops.new result }
     ensures same { length todo.new.items.now ≡ length todo.old.items.now }
     ensures held { todo.new.items.ghost_name ≡ todo.old.items.ghost_name }
 {
@@ -60,7 +60,7 @@ pub(crate) fn unfold_all<R: Rate>(
     to: u16,
     stops: &mut [u16],
 ) -> usize
-    ensures { (n : ℕ) (m : LaneMap Member) (r : Member) → areas.entry.n ≡ n → InOrder R.kind n m areas.entry.sides.now areas.entry.pieces.now (map R.means areas.entry.lanes.now) (map R.means areas.entry.sheets.now) → from < n → to < n → 84 ≤ length todo.old → n ≤ length stops.old → BestRate R.kind m from to r → (r ≢ R.kind.none) → TripWritten R.kind m from to r stops.new result }
+    ensures { (n : ℕ) (m : LaneMap R.Member) (r : R.Member) → areas.entry.n ≡ n → InOrder R.kind n m areas.entry.sides.now areas.entry.pieces.now (map R.means areas.entry.lanes.now) (map R.means areas.entry.sheets.now) → from < n → to < n → 84 ≤ length todo.old → n ≤ length stops.old → BestRate R.kind m from to r → (r ≢ R.kind.none) → TripWritten R.kind m from to r stops.new result }
 {
     let mut list = Stack::new(todo);
     put(&mut list, RoutePart { piece: 0, from, to });
