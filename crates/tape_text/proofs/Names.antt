@@ -107,7 +107,7 @@ module _ (text before behind : List ℕ) (k : CutIs text 32 before behind) where
   pub apart : (c : Content) → Fits c → text ≡ text_of c → Apart c before behind
   apart (Head h) g e = with_fields (Head h) (head_words h) refl e (λ w. (g, w)) refl
   apart (Link d) g e = with_fields (Link d) (ends_words d) refl e (λ w. (g, w)) refl
-  apart PlanEnd g e = record { name = name_only (codes "plan_end") refl e; fields = tt; same = refl }
+  apart PlanEnd g e = record { name = name_only (codes "plan-end") refl e; fields = tt; same = refl }
   apart (Post l) g e = with_fields (Post l) (lane_words l) refl e (λ w. (g, w)) refl
   apart (Shut d) g e = with_fields (Shut d) (ends_words d) refl e (λ w. (g, w)) refl
   apart (Try l) g e = with_fields (Try l) (lane_words l) refl e (λ w. (g, w)) refl

@@ -28,7 +28,7 @@ head_words h =
 abbrev pub kind_name : Kind → List ℕ
 kind_name Kind.Head = codes "head"
 kind_name Kind.Link = codes "link"
-kind_name Kind.PlanEnd = codes "plan_end"
+kind_name Kind.PlanEnd = codes "plan-end"
 kind_name Kind.Post = codes "post"
 kind_name Kind.Shut = codes "shut"
 kind_name Kind.Try = codes "try"

@@ -5,7 +5,7 @@ use Rattle.std.proofs.lemmas.Bool.{eqb-true}
 use Rattle.tape_text.specs.Making.{OnLine}
 use Rattle.tape_text.proofs.Spelling.{on_line, parsed_some, parsed_none}
 use Rattle.tape_text.proofs.making.read_line.Goals as goal
-use Rattle.tape_text.proofs.making.read_line.Goals.{After-behind_place, at·returns-in-Some, at·returns-in-None}
+use Rattle.tape_text.proofs.making.read_line.Goals.{After-behind_place, at-returns-in-Some, at-returns-in-None}
 
 pub returns-then-is_empty : goal.returns-then-is_empty
 returns-then-is_empty c =
@@ -29,13 +29,13 @@ used c =
 pub returns-in-Some : goal.returns-in-Some
 returns-in-Some c = (
   c.behind_place.result.now,
-  used (at·returns-in-Some c).After-behind_place,
+  used (at-returns-in-Some c).After-behind_place,
   parsed_some c.behind_place.result.now c.in_ok-content.field-0 c.in-Some.content c.in-Some.is c.in_ok-content.ensures,
 )
 
 pub returns-in-None : goal.returns-in-None
 returns-in-None c = (
   c.behind_place.result.now,
-  used (at·returns-in-None c).After-behind_place,
+  used (at-returns-in-None c).After-behind_place,
   parsed_none c.behind_place.result.now c.in_ok-content.field-0 c.in-None.is c.in_ok-content.ensures,
 )

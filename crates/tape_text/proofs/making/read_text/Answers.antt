@@ -4,7 +4,7 @@ use Rattle.tape_text.specs.declared.making.Line.TheVariants.{Remark, Record, Bad
 use Rattle.tape_text.specs.Making.{FirstLine}
 use Rattle.tape_text.proofs.Spelling.{SoFar, less_left, past_remark, past_record, all_read, bad_line, line_is}
 use Rattle.tape_text.proofs.making.read_text.Goals as goal
-use Rattle.tape_text.proofs.making.read_text.Goals.{in-Remark, in-Record+in_ok-push}
+use Rattle.tape_text.proofs.making.read_text.Goals.{in-Remark, in-Record+in_ok-push-in-Record}
 
 pub returns-in-Bad : goal.returns-in-Bad
 returns-in-Bad c =
@@ -36,10 +36,10 @@ loop-rest-preserved c =
       | in-Remark w ↦
           subst (λ v. SoFar text next (n + 1) (vec_items v)) (sym w.contents-is)
           (past_remark text rest line next n old c.loop-rest.invariant.1 f (line_is line c.in_ok-read_line.field-0 Remark w.in-Remark.is is))
-      | in-Record+in_ok-push w ↦
+      | in-Record+in_ok-push-in-Record w ↦
           subst (λ v. SoFar text next (n + 1) (vec_items v)) (sym w.contents-is)
           (past_record text rest line next n old (vec_items w.push.new.self) w.in-Record.content c.loop-rest.invariant.1 f
-          (line_is line c.in_ok-read_line.field-0 (Record w.in-Record.content) w.in-Record.is is) w.in_ok-push.ensures.items)
+          (line_is line c.in_ok-read_line.field-0 (Record w.in-Record.content) w.in-Record.is is) w.in_ok-push-in-Record.ensures.items)
     ] in
     (search rules, so_far)
 
