@@ -30,7 +30,6 @@ module _ {M : Type 0} (K : Kind M) where
     marked = h.marked;
     all_sides = h.all_sides;
     all_pieces = h.all_pieces;
-    all_lanes = h.all_lanes;
     all_sheets = omega (arith, h.all_sheets);
     shown = h.shown;
   }
@@ -43,7 +42,7 @@ module _ {M : Type 0} (K : Kind M) where
       (λ t. inr (λ p q. both_ways (eqb u a && eqb v b) t (and_from (eqb u a) (eqb v b) (eq-eqb u a p) (eq-eqb v b q)), cond-false (eqb u a && eqb v b) r (m u v) t))
       (cases_Bool (eqb u a && eqb v b))
 
-  module _ (n : ℕ) (m : LaneMap M) (sides : List Side) (ps : List Piece) (area sheets : List M) (h : PlanStands K n m sides ps area sheets) (i : ℕ) (back : Bool) (r : M) (w : MayChange K n (ends_of sides) m i back r) where
+  module _ (n : ℕ) (m : LaneMap M) (sides : List Side) (ps : List Piece) (area sheets : List M) (h : PlanStands K n m sides ps area sheets) (lanes_long : 4 * n ≤ length area + 6) (i : ℕ) (back : Bool) (r : M) (w : MayChange K n (ends_of sides) m i back r) where
     abbrev e : Ends
     e = ends_of sides
 
@@ -82,8 +81,8 @@ module _ {M : Type 0} (K : Kind M) where
     }
 
     place_below : (c : Bool) → lane_place i c < length area
-    place_below true = omega (arith, w.side_in_range, h.all_lanes)
-    place_below false = omega (arith, w.side_in_range, h.all_lanes)
+    place_below true = omega (arith, w.side_in_range, lanes_long)
+    place_below false = omega (arith, w.side_in_range, lanes_long)
 
     -- the place of the lane along j in a direction, before and after
     shown_before : (j : ℕ) (d : Bool) → j + 3 < 2 * n → m (lane_from e j d) (lane_to e j d) ≡ get_or area (lane_place j d) K.none
@@ -112,7 +111,6 @@ module _ {M : Type 0} (K : Kind M) where
       marked = h.marked;
       all_sides = h.all_sides;
       all_pieces = h.all_pieces;
-      all_lanes = omega (arith, h.all_lanes, length-set area at r);
       all_sheets = h.all_sheets;
       shown = lanes_shown;
     }
@@ -162,7 +160,7 @@ module _ {M : Type 0} (K : Kind M) where
     -- the promise of a change, from the sheets rewritten
     pub lane_changed : (sheets' : List M) (count : ℕ) → length sheets ≤ length sheets' → AllShown K n e ps m' sheets' → count ≡ length (way_up ps 41 leaf) → ((q : ℕ) → (Among q (way_up ps 41 leaf) → ⊥) → sheet_of K sheets' q ≡ sheet_of K sheets q) → LaneChanged K n m sides ps i back r (set area at r) sheets sheets' count
     lane_changed sheets' count l shown counted others = record {
-      in_order = record { stands = other_sheets n m' sides ps (set area at r) sheets sheets' changed_stands l; all_shown = shown };
+      in_order = record { stands = other_sheets n m' sides ps (set area at r) sheets sheets' changed_stands l; all_lanes = omega (arith, lanes_long, length-set area at r); all_shown = shown };
       holders = (way_up ps 41 leaf, (held_by, counted));
       few = omega (arith, counted, held_by.at_most);
       others_kept = λ q un. others q (λ k. un (held_by.only q k).1);

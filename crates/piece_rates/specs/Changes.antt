@@ -34,7 +34,7 @@ pub record HeldBy (n : ℕ) (e : Ends) (ps : List Piece) (u v : ℕ) (ws : List 
 
 module _ {M : Type 0} (K : Kind M) where
   -- The records are a division of a filled ring of n terminals, whose sides name their leaf pieces; the lane area shows the
-  -- lanes of the plan; there is room for all lanes and all sheets.
+  -- lanes of the plan; there is room for all sheets.
   pub record PlanStands (n : ℕ) (m : LaneMap M) (sides : List Side) (ps : List Piece) (area sheets : List M) : Type 0 where
     pub lanes : PlanLanes K n m
     pub filled : Filled n (ends_of sides)
@@ -42,7 +42,6 @@ module _ {M : Type 0} (K : Kind M) where
     pub marked : LeavesMarked n sides (span (ends_of sides)) ps
     pub all_sides : 2 * n ≤ length sides + 3
     pub all_pieces : 2 * n ≤ length ps + 5
-    pub all_lanes : 4 * n ≤ length area + 6
     pub all_sheets : 64 * (2 * n) ≤ length sheets + 320
     pub shown : LanesShown K n (ends_of sides) area m
 
@@ -54,9 +53,10 @@ module _ {M : Type 0} (K : Kind M) where
   abbrev pub AllShown : ℕ → Ends → List Piece → LaneMap M → List M → Type 0
   AllShown n e ps m sheets = (p : ℕ) → p + 5 < 2 * n → PieceShown n e ps m sheets p
 
-  -- A plan is in order: its records and lanes stand, and every sheet shows its piece's best rates.
+  -- A plan is in order: its records and lanes stand, there is room for all lanes, and every sheet shows its piece's best rates.
   pub record InOrder (n : ℕ) (m : LaneMap M) (sides : List Side) (ps : List Piece) (area sheets : List M) : Type 0 where
     pub stands : PlanStands n m sides ps area sheets
+    pub all_lanes : 4 * n ≤ length area + 6
     pub all_shown : AllShown n (ends_of sides) ps m sheets
 
   -- the sheets of the two parts of the piece p, if it is cut, show their best rates

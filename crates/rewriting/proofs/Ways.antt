@@ -32,11 +32,11 @@ module _ {M : Type 0} (K : Kind M) {V : Type 0} (means : V → M) where
     none_left = all_shown K means n (ends_of sides) ps m before after p (41 - (k + 1)) left_to_do only here_shown
 
   -- a plan that stands has room for a change
-  pub room_there : (n : ℕ) (m : LaneMap M) (sides : List Side) (ps : List Piece) (lanes sheets : List V) (i : ℕ) (back : Bool) (r : M) (work : ℕ) → PlanStands K n m sides ps (map means lanes) (map means sheets) → MayChange K n (ends_of sides) m i back r → 64 ≤ work → Room sides (length lanes) (length sheets) work i
-  room_there n m sides ps lanes sheets i back r work h w wide = record {
+  pub room_there : (n : ℕ) (m : LaneMap M) (sides : List Side) (ps : List Piece) (lanes sheets : List V) (i : ℕ) (back : Bool) (r : M) (work : ℕ) → PlanStands K n m sides ps (map means lanes) (map means sheets) → 4 * n ≤ length (map means lanes) + 6 → MayChange K n (ends_of sides) m i back r → 64 ≤ work → Room sides (length lanes) (length sheets) work i
+  room_there n m sides ps lanes sheets i back r work h lanes_long w wide = record {
     side_there = omega (arith, w.side_in_range, h.all_sides);
-    lanes_there = omega (arith, w.side_in_range, h.all_lanes, length-map lanes means);
-    sheet_there = omega (arith, leaf_range K n m sides ps (map means lanes) (map means sheets) h i back r w, h.all_sheets, length-map sheets means);
+    lanes_there = omega (arith, w.side_in_range, lanes_long, length-map lanes means);
+    sheet_there = omega (arith, leaf_range K n m sides ps (map means lanes) (map means sheets) h lanes_long i back r w, h.all_sheets, length-map sheets means);
     work_there = wide;
   }
 
@@ -56,10 +56,10 @@ module _ {M : Type 0} (K : Kind M) {V : Type 0} (means : V → M) where
         let sh = map means sheets in
         let z = map-set means lanes (lane_place i back) rate in
         subst (λ a. LaneChanged K n m sides ps i back (means rate) a sh (map means sheets') count) (sym z)
-        (lane_changed K n m sides ps area sh o.stands i back (means rate) w (map means sheets') count
+        (lane_changed K n m sides ps area sh o.stands o.all_lanes i back (means rate) w (map means sheets') count
         (omega (arith, long, length-map sheets means, length-map sheets' means))
-        (shown (subst (λ a. PlanStands K n m' sides ps a sh) (sym z) (changed_stands K n m sides ps area sh o.stands i back (means rate) w))
-        (leaf_range K n m sides ps area sh o.stands i back (means rate) w) (off_way K n m sides ps area sh o.stands i back (means rate) w o.all_shown))
+        (shown (subst (λ a. PlanStands K n m' sides ps a sh) (sym z) (changed_stands K n m sides ps area sh o.stands o.all_lanes i back (means rate) w))
+        (leaf_range K n m sides ps area sh o.stands o.all_lanes i back (means rate) w) (off_way K n m sides ps area sh o.stands o.all_lanes i back (means rate) w o.all_shown))
         way.counted (λ q away. same_mapped K means q sheets sheets' (way.others q away)))
 
     pub change_shown : (leaf place : ℕ) → leaf ≡ leaf_of sides i → place ≡ lane_place i back → WayRewritten ps leaf sheets work count sheets' work' → Shown leaf place → LaneChanged K n m sides ps i back (means rate) (map means (set lanes place rate)) (map means sheets) (map means sheets') count

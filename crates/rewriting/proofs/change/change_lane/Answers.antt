@@ -16,7 +16,7 @@ returns-then-not-has_room g c =
       refused = λ _. (refl, record { none_rewritten = refl; sheets_same = refl; work_same = refl });
       changed = λ n m wide o may.
           absurd (none (c.has_room.ensures.1 (room_there g.R.Rate.kind g.R.Rate.means n m c.args.sides.now c.args.pieces.now c.args.lanes.now c.args.sheets.now
-          c.args.side c.args.back (g.R.Rate.means c.args.rate) (length c.args.work.now) o.stands may wide)));
+          c.args.side c.args.back (g.R.Rate.means c.args.rate) (length c.args.work.now) o.stands o.all_lanes may wide)));
     }
 
 pub returns : goal.returns
