@@ -1,13 +1,12 @@
 -- The areas' fronts: what holds of the first 2n - 3 sides holds of the area, and the rest is as it was.
 -- Assumes areas that are long enough.
-use Rattle.std.proofs.Common.{◌≡◌, ℕ, ◌+◌, ◌-◌, ◌*◌, ◌<◌, ◌≤◌, Bool, true, false, List, ◌++◌, map, length, get_or, take, drop, sym, refl, ap, ◌∙◌, subst, arith}
+use Rattle.std.proofs.Common.{◌≡◌, ℕ, ◌-◌, ◌*◌, true, List, ◌++◌, map, length, get_or, take, drop, sym, refl, ap, ◌∙◌, subst, arith}
 use Rattle.std.proofs.lemmas.List.{map-append, take-append-drop, drop_at, length-take-le, get_or_append_left}
-use Rattle.std.proofs.lemmas.Bool.{true≢false}
 use Rattle.ring.specs.declared.Side.{Side}
 use Rattle.records.specs.declared.Piece.{Piece}
-use Rattle.pieces.specs.Sides.{Ends, ends_of, lengths, span, no_side, Filled}
-use Rattle.pieces.specs.Marks.{SameSides, bare, mark_all}
-use Rattle.pieces.specs.Division.{Division, LeafMarked, LeavesMarked}
+use Rattle.pieces.specs.Sides.{ends_of, lengths, no_side, Filled}
+use Rattle.pieces.specs.Marks.{SameSides, bare}
+use Rattle.pieces.specs.Division.{Division, LeafMarked}
 use Rattle.pieces.proofs.Marking.{same_count}
 use Rattle.pieces.proofs.Standing.{divided}
 use Rattle.pieces.proofs.Leaves.{leaves}

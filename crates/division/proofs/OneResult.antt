@@ -1,10 +1,10 @@
 -- Sides with the same ends and links are divided into the same records.
 -- Assumes two divisions.
-use Rattle.std.proofs.Common.{◌≡◌, ℕ, ◌+◌, ◌-◌, ◌*◌, ◌<◌, ◌≤◌, List, map, length, get_or, take, drop, sym, refl, ap, ◌∙◌, subst, arith}
-use Rattle.std.proofs.lemmas.List.{get_or-take, get_or-map, length-take-le, length-map, take-map, ext_get_or}
+use Rattle.std.proofs.Common.{◌≡◌, ℕ, ◌+◌, ◌-◌, ◌*◌, ◌<◌, List, length, get_or, take, sym, ap, ◌∙◌, subst, arith}
+use Rattle.std.proofs.lemmas.List.{get_or-take, get_or-map, length-take-le, take-map, ext_get_or}
 use Rattle.ring.specs.declared.Side.{Side}
 use Rattle.records.specs.declared.Piece.{Piece}
-use Rattle.pieces.specs.Sides.{Ends, ends_of, span, no_side, Filled}
+use Rattle.pieces.specs.Sides.{Ends, span, no_side}
 use Rattle.pieces.specs.Cuts.{whole}
 use Rattle.pieces.specs.Marks.{SameSides, bare, with_leaf}
 use Rattle.pieces.specs.Holding.{piece_at, Holds}

@@ -9,7 +9,7 @@ use Rattle.pieces.specs.Sides.{Ends, span, Filled}
 use Rattle.pieces.proofs.Waiting.{UnderWay, few_wait, turn_leaf, turn_node, begins}
 use Rattle.pieces.specs.Cuts.{whole, size, single}
 use Rattle.pieces.specs.Order.{first_of, second_of, cut_record}
-use Rattle.division.specs.Turns.{Done, BothWait, Turn, Fitting}
+use Rattle.division.specs.Turns.{BothWait, Turn, Fitting}
 
 module _ (e : Ends) (p : ℕ) (ps ts : List Piece) (k : ℕ) (P : Piece) (k₁ : ℕ) (ts₁ : List Piece) (off : TakenOff k ts P k₁ ts₁) where
   next_is : (j : ℕ) → k ≡ suc j → (k₁ ≡ j) × (P ≡ get_or ts j whole)

@@ -1,13 +1,13 @@
 -- The clauses of a division at one record: a piece of one triangle, a piece that is cut, and what holds of both.
 -- Assumes the ends of a filled ring in preorder, and what is known of the piece from the cuts above it.
-use Rattle.std.proofs.Common.{◌≡◌, ℕ, ◌+◌, ◌-◌, ◌*◌, ◌<◌, ◌≤◌, Bool, true, false, cond, eqb, ltb, ◌⊎◌, List, [], ◌∷◌, ◌++◌, length, filter, sym, refl, ap, ◌∙◌, subst, inl, inr, ⊎_elim, arith}
+use Rattle.std.proofs.Common.{◌≡◌, ℕ, ◌+◌, ◌-◌, ◌*◌, ◌<◌, ◌≤◌, Bool, eqb, ltb, ◌⊎◌, List, [], ◌∷◌, length, filter, sym, refl, ap, ◌∙◌, subst, inl, inr, ⊎_elim, arith}
 use Rattle.std.proofs.lemmas.Bool.{cases_Bool, cond-true, cond-false, ne_eqb}
 use Rattle.records.specs.declared.Piece.{Piece}
-use Rattle.pieces.specs.Sides.{Ends, span, Filled, Preorder, Inside, SideOf, Child}
+use Rattle.pieces.specs.Sides.{Ends, span, Filled, Preorder, Inside, SideOf}
 use Rattle.records.specs.Few.{listed, Among, Pinned}
 use Rattle.pieces.specs.Cuts.{triangles, seams, four, rim}
-use Rattle.pieces.specs.Holding.{piece_at, Holds, holds, held, bounds, others, BoundingSeam}
-use Rattle.pieces.specs.Division.{Uncut, InnerSide, Partition, CutInTwo, EdgeTerminals, PieceStands}
+use Rattle.pieces.specs.Holding.{piece_at, Holds, holds, held, bounds, others}
+use Rattle.pieces.specs.Division.{Uncut, InnerSide, CutInTwo, EdgeTerminals, PieceStands}
 use Rattle.pieces.proofs.Tree.{inside_fits, child_inside, inside_trans}
 use Rattle.pieces.proofs.Tree.{parent as parent-below}
 use Rattle.pieces.proofs.Chosen.{among_kept}
@@ -16,7 +16,7 @@ use Rattle.pieces.proofs.Weights.{Sound, top_clear, hole_inside}
 use Rattle.pieces.proofs.Seam.{Cut}
 use Rattle.pieces.proofs.Parts.{Held, inner_list, outer_list, behind, among_inner, inner_sound, outer_sound, held_parts, inner_held, outer_held, held_once, sizes_add, seam_among}
 use Rattle.pieces.proofs.Shares.{sound_size, inner_left, outer_left}
-use Rattle.pieces.proofs.DepthBound.{Deep, deep_row, deep_level}
+use Rattle.pieces.proofs.DepthBound.{deep_row, deep_level}
 use Rattle.pieces.proofs.RimEnds.{bounds_of, rim_lists}
 use Rattle.pieces.proofs.Known.{Known, bounds_hole, bounds_top, bounds_cases}
 use Rattle.pieces.proofs.Shown.{Shown, shown_holds, holds_shown, shown_bounds, shown_held, bounds_length, others_once, row_rises, count_only}

@@ -1,16 +1,14 @@
 -- The number of a piece's triangles: what is counted side by side is what the lengths of the top and the holes say.
 -- Assumes that the lengths are those of a filled ring in preorder, and that the holes stand in a row below the top.
-use Rattle.std.proofs.Common.{◌≡◌, ℕ, zero, suc, ◌+◌, ◌-◌, ◌*◌, ◌<◌, ◌≤◌, Bool, true, false, cond, not, ◌&&◌, ◌||◌, eqb, ltb, leb, ◌⊎◌, List, [], ◌∷◌, sum_by, sym, refl, ap, ◌∙◌, subst, inl, inr, ⊎_elim, arith}
+use Rattle.std.proofs.Common.{◌≡◌, ℕ, zero, suc, ◌+◌, ◌-◌, ◌*◌, ◌<◌, ◌≤◌, Bool, true, false, cond, not, ◌&&◌, ◌||◌, eqb, leb, ◌⊎◌, List, [], ◌∷◌, sum_by, sym, refl, ap, subst, inl, inr, ⊎_elim, arith}
 use Rattle.std.proofs.lemmas.List.Sums.{sum_by-cons}
 use Rattle.std.proofs.lemmas.Bool.{cases_Bool, cases_lt, cases_eq, and_parts, and_from, or_cases, or_left, or_right, not-true, not_from_false, leb-true, le-leb, eqb-true, eq-eqb, true≢false, cond-true, cond-false, ne_eqb}
-use Rattle.records.specs.declared.Piece.{Piece}
 use Rattle.pieces.specs.Sides.{Preorder, Inside, within, right_of}
-use Rattle.records.specs.Few.{listed, Among}
 use Rattle.pieces.specs.Cuts.{triangles}
-use Rattle.pieces.specs.Holding.{clear, holds, Holds, count, held}
-use Rattle.pieces.proofs.Tree.{Fit, halves, left_fits, right_fits, inside_trans, inside_fits, nested}
+use Rattle.pieces.specs.Holding.{clear, count}
+use Rattle.pieces.proofs.Tree.{Fit, halves, left_fits, right_fits, inside_trans, inside_fits}
 use Rattle.pieces.proofs.Rows.{Row, inner, row_at, row_ends}
-use Rattle.pieces.proofs.Weights.{Clear, Sound, within_inside, inside_within, within_outside, outside_within, load_top, hole_inside}
+use Rattle.pieces.proofs.Weights.{Clear, Sound, within_inside, inside_within, within_outside, outside_within, load_top}
 use Rattle.pieces.proofs.Parts.{Held}
 
 pub clear_is : (len : ℕ → ℕ) (hs : List ℕ) (b : ℕ) → clear len hs b ≡ true → Clear len hs b

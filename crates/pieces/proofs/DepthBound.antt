@@ -3,9 +3,9 @@
 --
 -- A cut of a piece with at most three bounding seams takes the limit one number down the row. One with four does not, but leaves
 -- its parts three, so of two cuts one after the other at least one does.
-use Rattle.std.proofs.Common.{◌≡◌, ℕ, ◌+◌, ◌-◌, ◌*◌, ◌<◌, ◌≤◌, ◌⊎◌, sym, refl, ap, ◌∙◌, subst, inl, inr, ⊎_elim, arith}
-use Rattle.std.proofs.lemmas.Bool.{cases_lt, cases_eq}
-use Rattle.records.specs.Limits.{limit, share, RowOfLimits}
+use Rattle.std.proofs.Common.{◌≡◌, ℕ, ◌+◌, ◌*◌, ◌<◌, ◌≤◌, ◌⊎◌, refl, ap, inl, inr, ⊎_elim, arith}
+use Rattle.std.proofs.lemmas.Bool.{cases_lt}
+use Rattle.records.specs.Limits.{limit}
 use Rattle.records.proofs.RowOfLimits.{row_of_limits}
 use Rattle.pieces.proofs.Shares.{Left}
 

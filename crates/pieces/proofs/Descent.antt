@@ -1,6 +1,6 @@
 -- The way down to the seam: it stops at a base of the piece whose weight is at most the limit and not far below it.
 -- Assumes a weight that a base shares out between its children, up to c, and that what is heavy enough is a base of the piece.
-use Rattle.std.proofs.Common.{◌≡◌, ℕ, zero, suc, ◌+◌, ◌*◌, ◌<◌, ◌≤◌, Bool, true, false, cond, ltb, ◌⊎◌, sym, refl, ap, ◌∙◌, subst, inl, inr, ⊎_elim, arith}
+use Rattle.std.proofs.Common.{◌≡◌, ℕ, zero, suc, ◌+◌, ◌*◌, ◌<◌, ◌≤◌, ltb, ap, inl, inr, ⊎_elim, arith}
 use Rattle.std.proofs.lemmas.Bool.{cond_both, ltb-true, ltb-false}
 use Rattle.pieces.specs.Sides.{Preorder, Inside, Child, right_of}
 use Rattle.pieces.specs.Cuts.{left, right, heavier, descend}

@@ -1,13 +1,13 @@
 -- A seam parts the lanes of a piece and hands its edge terminals on.
 -- Assumes the ends of a filled ring in preorder and a division of it.
-use Rattle.std.proofs.Common.{◌≡◌, ℕ, ◌+◌, ◌-◌, ◌*◌, ◌<◌, ◌≤◌, ◌⊎◌, List, [], ◌∷◌, sym, refl, ap, ◌∙◌, subst, inl, inr, ⊎_elim, arith}
+use Rattle.std.proofs.Common.{◌≡◌, ℕ, ◌+◌, ◌*◌, ◌<◌, ◌≤◌, List, sym, refl, ap, subst, inl, inr, ⊎_elim, arith}
 use Rattle.records.specs.declared.Piece.{Piece}
 use Rattle.records.specs.Few.{listed, Among}
-use Rattle.pieces.specs.Sides.{Ends, span, Filled, Preorder, Inside, Child, Belongs}
-use Rattle.pieces.specs.Holding.{piece_at, Holds, bounds, Above, BoundingSeam, EndOf}
-use Rattle.pieces.specs.Holding.Above.{parent, higher}
-use Rattle.pieces.specs.Division.{Division, CutInTwo, PieceStands}
-use Rattle.pieces.specs.Geometry.{NotBetween, PartedBySeam, SeamsPartLanes}
+use Rattle.pieces.specs.Sides.{Ends, span, Filled, Inside, Belongs}
+use Rattle.pieces.specs.Holding.{piece_at, Holds, bounds, BoundingSeam}
+use Rattle.pieces.specs.Holding.Above.{higher}
+use Rattle.pieces.specs.Division.{Division, CutInTwo}
+use Rattle.pieces.specs.Geometry.{NotBetween, SeamsPartLanes}
 use Rattle.pieces.proofs.Tree.{Fit, root_fits, inside_fits, inside_trans, child_inside, parent_inside, lie}
 use Rattle.pieces.proofs.Places.{preorder, ends_between, ends_before}
 use Rattle.pieces.proofs.Parts.{Held}

@@ -1,13 +1,13 @@
 -- The pieces that hold a triangle lie on one way up.
 -- Assumes a division, by its clauses alone.
-use Rattle.std.proofs.Common.{◌≡◌, ℕ, zero, suc, ◌+◌, ◌-◌, ◌*◌, ◌<◌, ◌≤◌, Bool, true, false, cond, ◌&&◌, ltb, ◌⊎◌, List, [], ◌∷◌, length, sym, refl, ap, ◌∙◌, subst, inl, inr, ⊎_elim, arith}
-use Rattle.std.proofs.lemmas.Bool.{cases_eq, cases_lt, cond-true, cond-false, and_from, and_left, and_right, lt-ltb, le-ltb}
+use Rattle.std.proofs.Common.{◌≡◌, ℕ, zero, suc, ◌+◌, ◌*◌, ◌<◌, ◌≤◌, true, false, ltb, ◌⊎◌, List, [], ◌∷◌, length, sym, refl, ap, ◌∙◌, subst, inl, inr, ⊎_elim, arith}
+use Rattle.std.proofs.lemmas.Bool.{cases_eq, cond-true, cond-false, and_from, and_right, lt-ltb, le-ltb}
 use Rattle.records.specs.declared.Piece.{Piece}
 use Rattle.records.specs.Few.{Among}
 use Rattle.pieces.specs.Sides.{Ends, span}
 use Rattle.pieces.specs.Holding.{piece_at, Holds, Above}
 use Rattle.pieces.specs.Holding.Above.{parent, higher}
-use Rattle.pieces.specs.Division.{Division, PieceStands, Uncut, CutInTwo}
+use Rattle.pieces.specs.Division.{Division, Uncut, CutInTwo}
 use Rattle.pieces.specs.Holders.{OnWayUp, HoldersOnWayUp, climbs, way_up, WayUp, WayUpComplete}
 
 module _ (n : ℕ) (e : Ends) (ps : List Piece) (d : Division n e ps) where

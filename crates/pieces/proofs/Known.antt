@@ -1,16 +1,16 @@
 -- What is known of a piece from the cuts above it, and how it passes on to the two parts of the piece.
 -- Assumes that the lengths are those of a filled ring in preorder.
-use Rattle.std.proofs.Common.{◌≡◌, ℕ, ◌+◌, ◌-◌, ◌*◌, ◌<◌, ◌≤◌, Bool, true, false, cond, eqb, ◌⊎◌, List, [], ◌∷◌, sym, refl, ap, ◌∙◌, subst, inl, inr, ⊎_elim, arith}
+use Rattle.std.proofs.Common.{◌≡◌, ℕ, ◌+◌, ◌*◌, ◌<◌, ◌≤◌, eqb, ◌⊎◌, List, ◌∷◌, sym, refl, ap, ◌∙◌, subst, inl, inr, ⊎_elim, arith}
 use Rattle.std.proofs.lemmas.Bool.{cases_Bool, cond-true, cond-false, eqb-false, ne_eqb}
 use Rattle.records.specs.declared.Piece.{Piece}
 use Rattle.pieces.specs.Sides.{Preorder, Inside, Child, SideOf}
-use Rattle.records.specs.Few.{listed, Among}
+use Rattle.records.specs.Few.{Among}
 use Rattle.pieces.specs.Cuts.{triangles, seams, four}
 use Rattle.pieces.specs.Holding.{piece_at, Above}
 use Rattle.pieces.specs.Holding.Above.{parent, higher}
 use Rattle.pieces.proofs.Tree.{Fit, inside_fits, inside_trans, child_inside, parent_inside}
 use Rattle.pieces.proofs.Tree.{parent as parent-below}
-use Rattle.pieces.proofs.Weights.{Clear, Sound, hole_inside}
+use Rattle.pieces.proofs.Weights.{Sound, hole_inside}
 use Rattle.pieces.proofs.Seam.{Cut}
 use Rattle.pieces.proofs.Parts.{inner_list, outer_list, Held, among_inner, inner_among, among_outer, outer_among, seam_among, inner_held, outer_held, inner_sound, outer_sound, sizes_add}
 use Rattle.pieces.proofs.Shares.{inner_left, outer_left}

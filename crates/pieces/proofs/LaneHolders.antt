@@ -1,13 +1,12 @@
 -- The pieces that hold a lane are its leaf piece and those above it.
 -- Assumes the ends of a filled ring in preorder, a division of it, and a side that names its leaf piece.
-use Rattle.std.proofs.Common.{◌≡◌, ℕ, ◌+◌, ◌*◌, ◌<◌, ◌≤◌, ◌⊎◌, List, length, sym, refl, ap, ◌∙◌, subst, inl, inr, ⊎_elim, arith}
+use Rattle.std.proofs.Common.{ℕ, ◌+◌, ◌*◌, ◌<◌, List, sym, subst, inl, inr, ⊎_elim, arith}
 use Rattle.records.specs.declared.Piece.{Piece}
-use Rattle.records.specs.Few.{Among}
-use Rattle.pieces.specs.Sides.{Ends, span, Filled, Belongs}
+use Rattle.pieces.specs.Sides.{Ends, span, Belongs}
 use Rattle.pieces.specs.Holding.{piece_at, Holds, Above}
 use Rattle.pieces.specs.Holding.Above.{parent, higher}
-use Rattle.pieces.specs.Division.{Division, LeafMarked}
-use Rattle.pieces.specs.Holders.{OnWayUp, way_up, LaneHoldersListed}
+use Rattle.pieces.specs.Division.{Division}
+use Rattle.pieces.specs.Holders.{LaneHoldersListed}
 use Rattle.pieces.proofs.Places.{preorder}
 use Rattle.pieces.proofs.Holders.{holders, way_up_stands, under_cut}
 use Rattle.pieces.proofs.Geometry.{in_root}

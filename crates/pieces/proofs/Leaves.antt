@@ -1,21 +1,21 @@
 -- After the marking every side names the uncut piece that holds the triangle its lanes belong to.
 -- Assumes the sides of a filled ring in preorder and a division of it.
-use Rattle.std.proofs.Common.{◌≡◌, ℕ, zero, suc, ◌+◌, ◌-◌, ◌*◌, ◌<◌, ◌≤◌, Bool, true, false, cond, eqb, ◌≢◌, ◌⊎◌, List, [], ◌∷◌, map, length, get_or, take, set, sym, refl, ap, ◌∙◌, subst, inl, inr, ⊎_elim, arith}
-use Rattle.std.proofs.lemmas.Bool.{cases_lt, cases_eq, cases_Bool, cond-true, cond-false, eqb-true, eqb-false, eq-eqb, ne_eqb}
+use Rattle.std.proofs.Common.{◌≡◌, ℕ, zero, suc, ◌+◌, ◌-◌, ◌*◌, ◌<◌, ◌≤◌, eqb, List, [], length, get_or, take, sym, refl, ap, ◌∙◌, subst, inl, inr, ⊎_elim, arith}
+use Rattle.std.proofs.lemmas.Bool.{cases_lt, cases_eq, cases_Bool, cond-true, cond-false, eqb-true, eqb-false}
 use Rattle.ring.specs.declared.Side.{Side}
 use Rattle.records.specs.declared.Piece.{Piece}
 use Rattle.records.specs.Few.{listed}
-use Rattle.pieces.specs.Sides.{Ends, ends_of, lengths, span, no_side, Filled, Preorder, Inside, Child, Belongs, right_of}
+use Rattle.pieces.specs.Sides.{Ends, ends_of, lengths, span, no_side, Filled, Preorder, Inside, Belongs}
 use Rattle.pieces.specs.Holding.{piece_at, Holds}
-use Rattle.pieces.specs.Division.{Division, Uncut, CutInTwo, LeafMarked, LeavesMarked}
-use Rattle.pieces.specs.Marks.{mark_triangle, mark_piece, mark_all, SameSides}
+use Rattle.pieces.specs.Division.{Division, Uncut, LeafMarked, LeavesMarked}
+use Rattle.pieces.specs.Marks.{mark_triangle, mark_all}
 use Rattle.pieces.proofs.Tree.{Fit, root_fits, inside_fits, child_inside, parent_inside}
 use Rattle.pieces.proofs.Tree.{parent as parent-below}
 use Rattle.pieces.proofs.Places.{preorder}
-use Rattle.pieces.proofs.Shown.{Shown, shown_holds, holds_shown}
+use Rattle.pieces.proofs.Shown.{shown_holds, holds_shown}
 use Rattle.pieces.proofs.Clauses.{itself}
 use Rattle.pieces.proofs.Holders.{one_uncut}
-use Rattle.pieces.proofs.Marking.{same_ends, same_lengths, same_count, all_same, piece_same, triangle_on, triangle_off}
+use Rattle.pieces.proofs.Marking.{same_lengths, same_count, all_same, triangle_on, triangle_off}
 
 -- a side's lanes belong to one triangle
 pub belongs_once : (n : ℕ) (len : ℕ → ℕ) → Preorder n len → (i b c : ℕ) → Fit n len b → Fit n len c → Belongs len i b → Belongs len i c → b ≡ c

@@ -1,17 +1,16 @@
 -- The two parts of a cut: each describes a piece, together they hold the triangles of the piece that was cut, and their sizes and seams add up.
 -- Assumes that the lengths are those of a filled ring in preorder, and a seam that cuts the piece.
-use Rattle.std.proofs.Common.{◌≡◌, ℕ, ◌+◌, ◌-◌, ◌*◌, ◌<◌, ◌≤◌, Bool, true, false, cond, eqb, ltb, leb, ◌⊎◌, List, [], ◌∷◌, ◌++◌, length, sum_by, filter, sym, refl, ap, ◌∙◌, subst, inl, inr, ⊎_elim, arith}
+use Rattle.std.proofs.Common.{◌≡◌, ℕ, ◌+◌, ◌*◌, ◌≤◌, Bool, true, false, cond, eqb, ltb, leb, ◌⊎◌, List, ◌∷◌, ◌++◌, length, sum_by, filter, refl, subst, inl, inr, ⊎_elim, arith}
 use Rattle.std.proofs.lemmas.List.Sums.{sum_by-cons, sum_by-append}
-use Rattle.std.proofs.lemmas.Bool.{cases_Bool, cond-true, cond-false, cond_both, eqb-true, eqb-false, eq-eqb, ne_eqb, ltb-true, le-ltb, lt-ltb, leb-true, le-leb, lt-leb}
-use Rattle.pieces.specs.Sides.{Preorder, Inside, within, Child}
+use Rattle.std.proofs.lemmas.Bool.{cases_Bool, cond-true, cond-false, eqb-false, ne_eqb, ltb-true, le-ltb, lt-ltb, leb-true, le-leb, lt-leb}
+use Rattle.pieces.specs.Sides.{Preorder, Inside, within}
 use Rattle.records.specs.Few.{Among}
-use Rattle.records.specs.Limits.{share}
 use Rattle.pieces.specs.Cuts.{load, triangles, seams, four}
-use Rattle.pieces.proofs.Tree.{Fit, nested, lie, inside_fits, inside_trans, child_inside, parent_inside, parent}
+use Rattle.pieces.proofs.Tree.{Fit, nested, lie, inside_fits, inside_trans}
 use Rattle.pieces.proofs.Chosen.{among_kept, kept_among, among_left, among_right, among_either, sum_kept, sum_ones, sum_add}
-use Rattle.pieces.proofs.Rows.{Row, inner, row_at, row_kept, row_join, row_apart}
-use Rattle.pieces.proofs.Weights.{Clear, Sound, within_inside, inside_within, within_outside, outside_within, hole_inside, top_clear, load_top, load_bound, triangles_halves}
-use Rattle.pieces.proofs.Seam.{Cut, seams_bound}
+use Rattle.pieces.proofs.Rows.{Row, inner, row_at, row_kept, row_join}
+use Rattle.pieces.proofs.Weights.{Clear, Sound, within_inside, inside_within, within_outside, outside_within, load_top, load_bound}
+use Rattle.pieces.proofs.Seam.{Cut}
 
 -- the holes of the two parts, as lists
 abbrev pub inner_list : (ℕ → ℕ) → ℕ → List ℕ → List ℕ

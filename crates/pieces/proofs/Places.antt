@@ -1,9 +1,9 @@
 -- Where the ends of sides lie: those of the sides below a side between its own ends, all others not strictly between.
 -- Assumes the ends of a filled ring in preorder.
-use Rattle.std.proofs.Common.{◌≡◌, ℕ, zero, suc, ◌+◌, ◌-◌, ◌*◌, ◌<◌, ◌≤◌, ◌⊎◌, sym, refl, ap, ◌∙◌, subst, inl, inr, ⊎_elim, arith}
+use Rattle.std.proofs.Common.{◌≡◌, ℕ, zero, suc, ◌+◌, ◌*◌, ◌<◌, ◌≤◌, ap, ⊎_elim, arith}
 use Rattle.std.proofs.lemmas.Bool.{cases_lt, cases_eq}
 use Rattle.pieces.specs.Sides.{Ends, span, Filled, Halved, Preorder, Inside, right_of}
-use Rattle.pieces.proofs.Tree.{Fit, root_fits, halves, left_fits, right_fits, walk, nested, inside_fits}
+use Rattle.pieces.proofs.Tree.{Fit, root_fits, halves, left_fits, right_fits, walk, nested}
 
 module _ (n : ℕ) (e : Ends) (f : Filled n e) where
   pub preorder : Preorder n (span e)

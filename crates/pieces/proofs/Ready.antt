@@ -1,11 +1,11 @@
 -- Records of pieces that are still to be cut: the parts of one that describes a piece describe pieces, with the holes that a cut leaves.
 -- Assumes that the lengths are those of a filled ring in preorder.
-use Rattle.std.proofs.Common.{◌≡◌, ℕ, ◌+◌, ◌-◌, ◌*◌, ◌<◌, ◌≤◌, Bool, true, false, cond, ltb, List, [], ◌∷◌, ◌++◌, length, filter, sym, refl, ap, ◌∙◌, subst, arith}
+use Rattle.std.proofs.Common.{◌≡◌, ℕ, ◌≤◌, ltb, [], ◌∷◌, ◌++◌, length, filter, sym, ap, ◌∙◌, subst, arith}
 use Rattle.std.proofs.lemmas.List.{append_assoc, length-append}
 use Rattle.records.specs.declared.Piece.{Piece}
 use Rattle.pieces.specs.Sides.{Preorder, within}
 use Rattle.records.specs.Few.{listed, none, added, Pinned}
-use Rattle.pieces.specs.Cuts.{triangles, seams, four, seam_of, chosen, inner_holes, outer_holes, size}
+use Rattle.pieces.specs.Cuts.{triangles, four, chosen, inner_holes, outer_holes, size}
 use Rattle.pieces.specs.Order.{seam_in, first_of, second_of}
 use Rattle.pieces.proofs.FewLists.{none_pinned, added_list, added_count, added_pinned, chosen_list, listed_length}
 use Rattle.pieces.proofs.Weights.{Sound}

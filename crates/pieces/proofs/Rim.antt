@@ -1,18 +1,13 @@
 -- The edge terminals: the ends of the bounding seams, put one behind the other, come out rising and complete.
 -- Assumes the ends of a filled ring in preorder, and a piece whose holes stand in a row below its top.
-use Rattle.std.proofs.Common.{◌≡◌, ℕ, ◌+◌, ◌-◌, ◌*◌, ◌<◌, ◌≤◌, Bool, true, false, cond, ◌||◌, eqb, ltb, ◌⊎◌, List, [], ◌∷◌, ◌++◌, length, get_or, set, fold, sym, refl, ap, ◌∙◌, subst, inl, inr, ⊎_elim, arith}
+use Rattle.std.proofs.Common.{◌≡◌, ℕ, ◌+◌, ◌-◌, ◌<◌, ◌≤◌, Bool, true, false, ◌||◌, eqb, ltb, ◌⊎◌, List, [], ◌∷◌, ◌++◌, length, get_or, set, sym, refl, ap, ◌∙◌, subst, inl, inr, ⊎_elim, arith}
 use Rattle.std.proofs.lemmas.List.{get_or-set_same}
-use Rattle.std.proofs.lemmas.Bool.{cases_Bool, cond-true, cond-false, or_cases, or_parts, eqb-true, eqb-false, ltb-true, ltb-false, eq-eqb}
+use Rattle.std.proofs.lemmas.Bool.{cases_Bool, cond-true, cond-false, or_cases, or_parts, eqb-true, eqb-false, ltb-true, ltb-false}
 use Rattle.records.specs.declared.Few.{Few}
 use Rattle.records.specs.Few.{listed, none, added, Among, RisingFrom, Pinned}
-use Rattle.pieces.specs.Sides.{Ends, span, Filled, Inside}
 use Rattle.records.specs.Few.{raised}
-use Rattle.pieces.specs.Cuts.{around}
-use Rattle.pieces.proofs.Tree.{Fit}
 use Rattle.pieces.proofs.Chosen.{among_left, among_right, among_either}
 use Rattle.pieces.proofs.FewLists.{none_pinned, added_is, added_count, added_list, added_pinned, listed_length}
-use Rattle.pieces.proofs.Rows.{Row, row_at}
-use Rattle.pieces.proofs.Places.{ends_before, preorder}
 
 rising_push : (a : ℕ) (xs : List ℕ) (x : ℕ) → RisingFrom a xs → ((y : ℕ) → Among y xs → y < x) → a ≤ x → RisingFrom a (xs ++ x ∷ [])
 rising_push a [] x r l b = (b, tt)

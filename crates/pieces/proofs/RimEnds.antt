@@ -1,18 +1,17 @@
 -- The rim of a piece lists exactly the ends of its bounding seams.
 -- Assumes the ends of a filled ring in preorder, and a piece whose holes stand in a row below its top.
-use Rattle.std.proofs.Common.{◌≡◌, ℕ, ◌+◌, ◌-◌, ◌*◌, ◌<◌, ◌≤◌, Bool, true, false, cond, eqb, ◌⊎◌, List, [], ◌∷◌, length, get_or, fold, sym, refl, ap, ◌∙◌, subst, inl, inr, ⊎_elim, arith}
+use Rattle.std.proofs.Common.{◌≡◌, ℕ, ◌+◌, ◌-◌, ◌*◌, ◌<◌, ◌≤◌, true, false, cond, eqb, ◌⊎◌, List, [], ◌∷◌, length, get_or, fold, sym, refl, ap, ◌∙◌, subst, inl, inr, ⊎_elim, arith}
 use Rattle.std.proofs.lemmas.Bool.{cases_Bool, cond-true, cond-false}
 use Rattle.records.specs.declared.Few.{Few}
 use Rattle.records.specs.Few.{listed, none, Among, RisingFrom, Pinned}
-use Rattle.pieces.specs.Sides.{Ends, span, Filled, Inside}
+use Rattle.pieces.specs.Sides.{Ends, span, Filled}
 use Rattle.records.specs.Few.{raised}
-use Rattle.pieces.specs.Cuts.{around, rim, seams}
+use Rattle.pieces.specs.Cuts.{around, rim}
 use Rattle.pieces.specs.Holding.{EndOf}
-use Rattle.pieces.proofs.Tree.{Fit, inside_fits}
 use Rattle.pieces.proofs.Rows.{Row, row_at}
 use Rattle.pieces.proofs.Places.{ends_before, ends_between, preorder}
 use Rattle.pieces.proofs.Weights.{Sound, hole_inside}
-use Rattle.pieces.proofs.Rim.{Rises, none_rises, Raised, raise}
+use Rattle.pieces.proofs.Rim.{Rises, none_rises, raise}
 
 -- the ends of the sides hs were put behind the terminals of f
 record Rimmed (e : Ends) (f : Few) (hs : List ℕ) (k : ℕ) (g : Few) : Type 0 where

@@ -1,16 +1,15 @@
 -- The seam of a piece: a base of it below the top, that shares out the holes or the triangles as the two cut rules ask.
 -- Assumes that the lengths are those of a filled ring in preorder, and a piece of several triangles.
-use Rattle.std.proofs.Common.{◌≡◌, ℕ, ◌+◌, ◌-◌, ◌*◌, ◌<◌, ◌≤◌, Bool, true, false, cond, eqb, ◌⊎◌, List, [], ◌∷◌, length, sym, refl, ap, ◌∙◌, subst, inl, inr, ⊎_elim, arith}
+use Rattle.std.proofs.Common.{◌≡◌, ℕ, ◌+◌, ◌*◌, ◌<◌, ◌≤◌, Bool, true, false, cond, eqb, List, length, refl, arith}
 use Rattle.std.proofs.lemmas.Bool.{eqb-true, cond_both}
-use Rattle.pieces.specs.Sides.{Preorder, Inside, Child, right_of}
-use Rattle.records.specs.Few.{Among}
+use Rattle.pieces.specs.Sides.{Preorder, Inside, Child}
 use Rattle.records.specs.Limits.{share}
 use Rattle.pieces.specs.Cuts.{load, triangles, weight, descend, seams, four, seam_of}
-use Rattle.pieces.proofs.Tree.{Fit, halves, inside_fits, child_inside}
+use Rattle.pieces.proofs.Tree.{Fit, inside_fits, child_inside}
 use Rattle.pieces.proofs.Chosen.{sum_ones}
 use Rattle.pieces.proofs.Rows.{inner}
 use Rattle.pieces.proofs.Weights.{Clear, Sound, top_clear, load_top, load_halves, load_bound, load_has, triangles_halves, clear_child}
-use Rattle.pieces.proofs.Descent.{Found, descends}
+use Rattle.pieces.proofs.Descent.{descends}
 
 -- what a seam is to its piece; b says whether the cut goes by holes
 pub record Cut (len : ℕ → ℕ) (top : ℕ) (hs : List ℕ) (b : Bool) (v : ℕ) : Type 0 where

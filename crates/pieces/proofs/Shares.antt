@@ -1,10 +1,10 @@
 -- How many triangles and bounding seams a cut leaves to each part.
 -- Assumes that the lengths are those of a filled ring in preorder, and a seam that cuts the piece.
-use Rattle.std.proofs.Common.{◌≡◌, ℕ, ◌+◌, ◌-◌, ◌*◌, ◌<◌, ◌≤◌, Bool, true, false, ◌⊎◌, List, sym, refl, ap, ◌∙◌, subst, inl, inr, ⊎_elim, arith}
+use Rattle.std.proofs.Common.{◌≡◌, ℕ, ◌<◌, ◌≤◌, List, arith}
 use Rattle.std.proofs.lemmas.Bool.{eq-eqb, ne_eqb}
-use Rattle.pieces.specs.Sides.{Preorder, Inside}
+use Rattle.pieces.specs.Sides.{Preorder}
 use Rattle.records.specs.Limits.{share}
-use Rattle.pieces.specs.Cuts.{load, triangles, seams, four}
+use Rattle.pieces.specs.Cuts.{triangles, seams, four}
 use Rattle.pieces.proofs.Weights.{Sound, top_clear, triangles_halves}
 use Rattle.pieces.proofs.Seam.{Cut}
 use Rattle.pieces.proofs.Parts.{inner_list, outer_list, inner_sound, outer_sound, inner_size, sizes_add, inner_seams, outer_seams}

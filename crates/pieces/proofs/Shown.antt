@@ -1,9 +1,9 @@
 -- What a record says, by its top and its holes: the triangles, their number, the bounding seams.
 -- Assumes that the lengths are those of a filled ring in preorder.
-use Rattle.std.proofs.Common.{◌≡◌, ℕ, zero, suc, ◌+◌, ◌-◌, ◌*◌, ◌<◌, ◌≤◌, Bool, true, false, cond, not, eqb, ◌⊎◌, List, [], ◌∷◌, ◌++◌, length, filter, sym, refl, ap, ◌∙◌, subst, inl, inr, ⊎_elim, arith}
+use Rattle.std.proofs.Common.{◌≡◌, ℕ, zero, suc, ◌+◌, ◌-◌, ◌*◌, ◌<◌, ◌≤◌, Bool, true, not, eqb, List, [], ◌∷◌, ◌++◌, length, sym, refl, ap, ◌∙◌, inl, inr, ⊎_elim, arith}
 use Rattle.std.proofs.lemmas.Bool.{cases_Bool, cases_order, cond-true, cond-false, eq-eqb, ne_eqb, not_from_true, not_from_false}
 use Rattle.records.specs.declared.Piece.{Piece}
-use Rattle.pieces.specs.Sides.{Preorder, Inside}
+use Rattle.pieces.specs.Sides.{Preorder}
 use Rattle.records.specs.Few.{listed, Among, RisingFrom}
 use Rattle.pieces.specs.Cuts.{triangles, seams}
 use Rattle.pieces.specs.Holding.{holds, Holds, count, held, bounds, others}

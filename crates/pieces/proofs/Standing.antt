@@ -1,21 +1,20 @@
 -- The records written in order are a division, and there is only one list of them.
 -- Assumes the ends of a filled ring in preorder.
-use Rattle.std.proofs.Common.{◌≡◌, ℕ, zero, suc, ◌+◌, ◌-◌, ◌*◌, ◌<◌, ◌≤◌, min, Bool, true, false, cond, ◌⊎◌, List, [], ◌∷◌, ◌++◌, length, get_or, take, sym, refl, ap, ◌∙◌, subst, inl, inr, ⊎_elim, arith}
-use Rattle.std.proofs.lemmas.List.{length-append, get_or_append_left, get_or-append-add, get_or-take, length-take}
+use Rattle.std.proofs.Common.{◌≡◌, ℕ, suc, ◌+◌, ◌-◌, ◌*◌, ◌<◌, ◌≤◌, List, [], ◌∷◌, ◌++◌, length, get_or, take, sym, refl, ap, ◌∙◌, subst, inl, inr, ⊎_elim, arith}
+use Rattle.std.proofs.lemmas.List.{length-append, get_or_append_left, get_or-append-add, get_or-take}
 use Rattle.std.proofs.lemmas.Bool.{cases_lt, cases_eq}
 use Rattle.records.specs.declared.Piece.{Piece}
-use Rattle.pieces.specs.Sides.{Ends, span, Filled, Preorder}
-use Rattle.records.specs.Few.{listed, Among}
+use Rattle.pieces.specs.Sides.{Ends, span, Filled}
+use Rattle.records.specs.Few.{listed}
 use Rattle.pieces.specs.Cuts.{triangles, seams, cap, whole, size, single, deeper}
 use Rattle.pieces.specs.Order.{Records, seam_in, first_of, second_of, cut_record}
 use Rattle.pieces.specs.Order.Records.{leaf, node}
 use Rattle.pieces.specs.Holding.{piece_at, Above}
 use Rattle.pieces.specs.Holding.Above.{parent, higher}
-use Rattle.pieces.specs.Division.{WholePlan, Uncut, CutInTwo, PieceStands, Division}
+use Rattle.pieces.specs.Division.{WholePlan, PieceStands, Division}
 use Rattle.pieces.proofs.Tree.{root_fits}
 use Rattle.pieces.proofs.Places.{preorder}
 use Rattle.pieces.proofs.FewLists.{none_pinned}
-use Rattle.pieces.proofs.Weights.{Sound}
 use Rattle.pieces.proofs.Parts.{inner_list, outer_list, sizes_add}
 use Rattle.pieces.proofs.Shares.{sound_size, inner_left, outer_left}
 use Rattle.pieces.proofs.DepthBound.{deep_whole, deep_cut}

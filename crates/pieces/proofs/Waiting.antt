@@ -1,18 +1,17 @@
 -- One turn of the division: the next piece is finished, and its parts, if it has any, wait in its place.
 -- Assumes the ends of a filled ring in preorder.
-use Rattle.std.proofs.Common.{◌≡◌, ℕ, zero, suc, ◌+◌, ◌-◌, ◌*◌, ◌<◌, ◌≤◌, Bool, true, false, cond, ◌≢◌, ◌⊎◌, List, [], ◌∷◌, ◌++◌, length, get_or, take, set, sym, refl, ap, ◌∙◌, subst, inl, inr, ⊎_elim, arith}
+use Rattle.std.proofs.Common.{◌≡◌, ℕ, zero, suc, ◌+◌, ◌-◌, ◌*◌, ◌<◌, ◌≤◌, ◌≢◌, List, [], ◌∷◌, ◌++◌, length, get_or, take, set, sym, refl, ap, ◌∙◌, subst, arith}
 use Rattle.std.proofs.lemmas.List.{append_assoc, append-nil, take_more_set, get_or-set_same, get_or-set_other, length-set}
 use Rattle.records.specs.declared.Piece.{Piece}
 use Rattle.records.specs.Few.{listed}
-use Rattle.pieces.specs.Sides.{Ends, span, Filled, Preorder}
+use Rattle.pieces.specs.Sides.{Ends, span, Filled}
 use Rattle.pieces.specs.Cuts.{whole, size, single, seams, deeper}
 use Rattle.pieces.specs.Order.{Records, first_of, second_of, cut_record, seam_in}
 use Rattle.pieces.specs.Order.Records.{leaf, node}
 use Rattle.pieces.specs.Waiting.{ToCome, Together}
 use Rattle.pieces.proofs.Places.{preorder}
-use Rattle.pieces.proofs.Ready.{Ready, seam_is_cut, first_ready, second_ready, first_list, second_list, first_size, second_size}
+use Rattle.pieces.proofs.Ready.{Ready, seam_is_cut, first_ready, second_ready, first_list, second_list}
 use Rattle.pieces.proofs.Shares.{sound_size, inner_left, outer_left}
-use Rattle.pieces.proofs.Weights.{Sound}
 use Rattle.pieces.proofs.Tree.{root_fits}
 use Rattle.pieces.proofs.FewLists.{none_pinned}
 use Rattle.pieces.proofs.DepthBound.{Deep, deep_whole, deep_part, deep_cut, deep_level}

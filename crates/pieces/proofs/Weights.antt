@@ -1,12 +1,12 @@
 -- Weights in a piece: how the holes below a side are shared out between its children, and how many triangles they leave.
 -- Assumes that the lengths are those of a filled ring in preorder, and that the piece's holes stand in a row below its top.
-use Rattle.std.proofs.Common.{◌≡◌, ℕ, ◌+◌, ◌-◌, ◌*◌, ◌<◌, ◌≤◌, Bool, true, false, cond, ◌&&◌, ltb, leb, ◌⊎◌, List, [], ◌∷◌, length, sum_by, filter, sym, refl, ap, ◌∙◌, subst, inl, inr, ⊎_elim, arith}
-use Rattle.std.proofs.lemmas.Bool.{cases_Bool, cases_eq, cases_lt, cond-true, cond-false, and_parts, and_from, and_cases, leb-true, leb-false, ltb-true, ltb-false, le-leb, lt-ltb}
+use Rattle.std.proofs.Common.{◌≡◌, ℕ, ◌+◌, ◌*◌, ◌≤◌, true, false, cond, ltb, leb, List, sum_by, filter, subst, ⊎_elim, arith}
+use Rattle.std.proofs.lemmas.Bool.{cases_Bool, cases_lt, cond-true, cond-false, and_parts, and_from, and_cases, leb-true, leb-false, ltb-true, ltb-false, le-leb, lt-ltb}
 use Rattle.pieces.specs.Sides.{Preorder, Inside, within, Child, right_of}
 use Rattle.records.specs.Few.{Among}
 use Rattle.pieces.specs.Cuts.{load, triangles, seams}
-use Rattle.pieces.proofs.Tree.{Fit, halves, nested, inside_fits, inside_rises, parent_inside}
-use Rattle.pieces.proofs.Chosen.{among_kept, sum_kept, sum_ones, sum_add, sum_same, sum_has, sum_each}
+use Rattle.pieces.proofs.Tree.{Fit, halves, nested, inside_fits, parent_inside}
+use Rattle.pieces.proofs.Chosen.{sum_kept, sum_ones, sum_add, sum_same, sum_has, sum_each}
 use Rattle.pieces.proofs.Rows.{Row, inner, row_at, row_sum, row_kept}
 
 pub within_inside : (len : ℕ → ℕ) (i j : ℕ) → within len i j ≡ true → Inside len i j

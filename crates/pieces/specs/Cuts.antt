@@ -1,11 +1,11 @@
 -- How one piece is cut, step by step as the program does it: the seam, the two parts, the finished record.
 -- Assumes nothing: every function has a value at any record and any ends. `Division` says what the results mean.
-use Rattle.std.specs.Prelude.{ℕ, zero, suc, ◌+◌, ◌-◌, ◌*◌, min, Bool, cond, ◌||◌, ltb, List, [], ◌∷◌, length, fold, sum_by, ◌==◌, nat_le, nat_lt}
+use Rattle.std.specs.Prelude.{ℕ, zero, suc, ◌+◌, ◌-◌, ◌*◌, min, Bool, cond, ltb, List, length, fold, sum_by, ◌==◌, nat_le, nat_lt}
 use Rattle.records.specs.declared.Few.{Few}
 use Rattle.records.specs.declared.Piece.{Piece}
 use Rattle.records.specs.Few.{listed, none, added, raised}
 use Rattle.records.specs.Limits.{share}
-use Rattle.pieces.specs.Sides.{Ends, span, within}
+use Rattle.pieces.specs.Sides.{Ends, within}
 
 -- an index as 16 bits hold it
 abbrev pub cap : ℕ → ℕ

@@ -6,7 +6,7 @@ use Rattle.records.specs.declared.Piece.{Piece}
 use Rattle.records.specs.Few.{listed, Among, RisingFrom, Pinned}
 use Rattle.records.specs.Limits.{limit, share}
 use Rattle.pieces.specs.Sides.{Ends, span, no_side, Child, Belongs}
-use Rattle.pieces.specs.Holding.{piece_at, Holds, held, bounds, others, Above, BoundingSeam, EndOf}
+use Rattle.pieces.specs.Holding.{piece_at, Holds, held, bounds, others, BoundingSeam, EndOf}
 
 -- piece 0 is the whole plan
 pub record WholePlan (P : Piece) : Type 0 where

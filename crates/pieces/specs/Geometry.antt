@@ -1,6 +1,6 @@
 -- The seam on the ring: where the lanes of the two parts of a cut lie, and what becomes of the edge terminals.
 -- Assumes the terms of `Holding` and `Division`. A side's lanes run between its two ends.
-use Rattle.std.specs.Prelude.{◌≡◌, ℕ, ◌+◌, ◌*◌, ◌<◌, ◌≤◌, ◌⊎◌, List}
+use Rattle.std.specs.Prelude.{ℕ, ◌+◌, ◌*◌, ◌<◌, ◌≤◌, ◌⊎◌, List}
 use Rattle.records.specs.declared.Piece.{Piece}
 use Rattle.records.specs.Few.{listed, Among}
 use Rattle.pieces.specs.Sides.{Ends, span, Filled, Belongs}

@@ -1,6 +1,6 @@
 -- What a piece record describes: the triangles that it holds, its bounding seams, and the pieces above it.
 -- Assumes nothing: a record of any content describes some set of triangles.
-use Rattle.std.specs.Prelude.{◌≡◌, ℕ, zero, suc, ◌+◌, ◌-◌, ◌*◌, ◌<◌, Bool, true, cond, not, ◌&&◌, ◌⊎◌, List, [], ◌∷◌, length, filter, ◌==◌, nat_le, slice_index_or}
+use Rattle.std.specs.Prelude.{◌≡◌, ℕ, zero, suc, ◌+◌, ◌-◌, ◌*◌, ◌<◌, Bool, true, cond, not, ◌&&◌, ◌⊎◌, List, [], ◌∷◌, filter, ◌==◌, nat_le, slice_index_or}
 use Rattle.records.specs.declared.Piece.{Piece}
 use Rattle.pieces.specs.Sides.{Ends, within, SideOf}
 use Rattle.records.specs.Few.{listed, Among}

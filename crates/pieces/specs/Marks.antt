@@ -1,6 +1,6 @@
 -- How the sides are told their leaf pieces: each uncut piece marks its triangle's base and those of its other sides that have length 1.
 -- Assumes nothing: every function has a value at any records.
-use Rattle.std.specs.Prelude.{◌≡◌, ℕ, zero, suc, Bool, cond, List, map, ◌==◌, slice_index_or, slice_set}
+use Rattle.std.specs.Prelude.{◌≡◌, ℕ, zero, suc, cond, List, map, ◌==◌, slice_index_or, slice_set}
 use Rattle.ring.specs.declared.Side.{Side}
 use Rattle.records.specs.declared.Piece.{Piece}
 use Rattle.pieces.specs.Sides.{no_side, lengths}

@@ -1,6 +1,6 @@
 -- The state of a division that is under way: records written below a number p, and pieces that wait to be cut.
 -- Assumes the terms of `Cuts` and `Order`. The waiting pieces are the first k of a list, and the last of these is next.
-use Rattle.std.specs.Prelude.{◌≡◌, ℕ, zero, suc, ◌+◌, ◌*◌, ◌<◌, ◌≤◌, List, [], ◌∷◌, ◌++◌, take, slice_index_or}
+use Rattle.std.specs.Prelude.{◌≡◌, ℕ, zero, suc, ◌+◌, ◌*◌, List, [], ◌++◌, take, slice_index_or}
 use Rattle.records.specs.declared.Piece.{Piece}
 use Rattle.pieces.specs.Sides.{Ends, span}
 use Rattle.pieces.specs.Cuts.{whole, size}

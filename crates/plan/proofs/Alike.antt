@@ -1,9 +1,8 @@
 -- Two plans with the same links leave the same records.
 -- Assumes their layouts.
-use Rattle.std.proofs.Common.{◌≡◌, ℕ, ◌*◌, ◌≤◌, List, map, length, take, sym, refl, ◌∙◌, arith}
+use Rattle.std.proofs.Common.{map, take, sym, refl, ◌∙◌, arith}
 use Rattle.std.proofs.lemmas.List.{take-map}
 use Rattle.triangulation.specs.Trees.{side_count}
-use Rattle.ring.specs.declared.Side.{Side}
 use Rattle.ring.proofs.Drawing.{fills_alike}
 use Rattle.ring.proofs.InArea.{area_long}
 use Rattle.pieces.specs.Marks.{SameSides, bare}

@@ -1,9 +1,8 @@
 -- The checks of a plan over all three areas: what the checks of its parts find.
 -- Assumes nothing.
-use Rattle.std.proofs.Common.{ℕ, zero, suc, ◌+◌, ◌*◌, ◌<◌, ◌≤◌, ◌⊎◌, List, [], ◌∷◌, length, get_or, Ok, Err, Result, inl, inr, ⊎_elim, arith}
+use Rattle.std.proofs.Common.{ℕ, zero, suc, ◌<◌, ◌≤◌, List, [], ◌∷◌, get_or, Ok, Err, Result, inl, inr, ⊎_elim, arith}
 use Rattle.std.proofs.lemmas.Bool.{cases_lt}
 use Rattle.triangulation.specs.Trees.{side_count}
-use Rattle.ring.specs.declared.Area.{Area}
 use Rattle.ring.specs.declared.Link.{Link}
 use Rattle.ring.specs.declared.PlanFault.{PlanFault}
 use Rattle.ring.specs.declared.PlanFault.TheVariants.{Terminals, ShortArea, BadEnds, Repeats, Crosses}

@@ -1,11 +1,10 @@
 -- Tests on rates, and the steps of a loop that joins or compares a list of them.
 -- Assumes the laws.
-use Rattle.std.proofs.Common.{◌≡◌, ℕ, ◌+◌, ◌<◌, ◌≤◌, Bool, true, false, cond, not, ◌||◌, ◌⊎◌, List, [], ◌∷◌, ◌++◌, map, length, get_or, take, Decides, sym, refl, ap, ◌∙◌, subst, inl, inr, ⊎_elim, true≢false, arith, below_more}
-use mathlib.Core.Bool.{false≢true}
-use Rattle.std.specs.List.{ContainsAt as Has, AllByRecursion as All}
+use Rattle.std.proofs.Common.{◌≡◌, ℕ, ◌+◌, ◌<◌, ◌≤◌, Bool, true, false, not, ◌||◌, List, [], ◌∷◌, ◌++◌, map, length, get_or, take, Decides, sym, refl, ap, ◌∙◌, subst, inl, inr, ⊎_elim, arith, below_more}
+use Rattle.std.specs.List.{ContainsAt as Has}
 use Rattle.std.proofs.lemmas.List.{map_more, get_or-map}
 use Rattle.std.proofs.ByRecursion.{All-push, All-weaker, has_push, has_append_left}
-use Rattle.std.proofs.lemmas.Bool.{not-true, not_from_false, or_parts, cases_Bool}
+use Rattle.std.proofs.lemmas.Bool.{not-true, not_from_false, or_parts}
 use Rattle.rates.specs.Kinds.{Kind, Laws, NoWorse, exact_size}
 use Rattle.rates.specs.Many.{better_of, joined_all, sizes, BestOf, FirstBest}
 use Rattle.rates.specs.Order.{le_refl, le_better, better_le, le_from, le_trans, le_none, same, join_still, better_of_first, better_of_second, better_of_greatest, better_of_either}

@@ -1,11 +1,10 @@
 -- Cents keep the laws of a kind of rate.
 -- Assumes nothing.
-use Rattle.std.specs.Prelude.{◌≡◌, ℕ, ◌+◌, ◌≤◌, Bool, true, false, ◌&&◌, ◌⊎◌, ℤ, pos, negsuc, ◌+ℤ◌, ◌≤ℤ◌, ◌<ℤ◌, ◌≢◌, int_le, refl}
+use Rattle.std.specs.Prelude.{◌≡◌, ℕ, ◌+◌, ◌≤◌, true, ◌⊎◌, ℤ, pos, negsuc, ◌+ℤ◌, ◌≢◌, int_le, refl}
 use Rattle.std.proofs.Common.{ap, true≢false, inl, inr, arith}
-use Rattle.std.specs.Int.Signed.{lt_z}
 use Rattle.std.proofs.lemmas.Int.{ints, by_lt_z}
 use Rattle.std.proofs.lemmas.Bool.{and_parts, false≢true}
-use Rattle.rates.specs.Kinds.{Kind, Laws, Strictness, NoWorse}
+use Rattle.rates.specs.Kinds.{Laws, Strictness, NoWorse}
 use Rattle.rates.specs.Amounts.{Amount, cents_kind, sum, less, magnitude, is_lane_amount}
 use Rattle.rates.specs.Amounts.Amount.{no_amount, whole}
 

@@ -1,6 +1,6 @@
 -- A kind of rate: a set of members with its operations, and the laws that they keep.
 -- Assumes nothing.
-use Rattle.std.specs.Prelude.{◌≡◌, ℕ, ◌+◌, ◌≤◌, Bool, true, false, cond, T, ◌⊎◌, ◌≢◌}
+use Rattle.std.specs.Prelude.{◌≡◌, ℕ, ◌+◌, ◌≤◌, Bool, true, false, T, ◌⊎◌, ◌≢◌}
 
 -- The operations of a kind over its members.
 -- still: the rate of staying put (the unit of joining). none: no rate at all (worst and absorbing).

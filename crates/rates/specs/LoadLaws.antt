@@ -1,10 +1,10 @@
 -- Tonnes keep the laws of a kind of rate.
 -- Assumes nothing.
-use Rattle.std.specs.Prelude.{◌≡◌, ℕ, ◌+◌, ◌<◌, ◌≤◌, min, Bool, true, false, cond, ◌⊎◌, ◌≢◌, nat_le, nat_lt, refl}
-use Rattle.std.proofs.Common.{ap, sym, ◌∙◌, true≢false, inl, inr, ⊎_elim, arith, leb→le}
+use Rattle.std.specs.Prelude.{◌≡◌, ℕ, ◌≤◌, min, true, cond, ◌⊎◌, ◌≢◌, nat_le, nat_lt, refl}
+use Rattle.std.proofs.Common.{ap, sym, ◌∙◌, inl, inr, ⊎_elim, arith, leb→le}
 use Rattle.std.proofs.lemmas.Bool.Decides.{nat_tests}
 use Rattle.std.proofs.lemmas.Bool.{ltb-true, ltb-false, lt-ltb, le-ltb, cases_lt, cond_both, false≢true}
-use Rattle.rates.specs.Kinds.{Kind, Laws, NoWorse}
+use Rattle.rates.specs.Kinds.{Laws, NoWorse}
 use Rattle.rates.specs.Loads.{Limited, most_tonnes, Load, tonnes_kind, lesser, more, is_lane_load}
 use Rattle.rates.specs.Such.{such_same}
 use Rattle.rates.specs.Loads.Load.{up_to, unlimited}

@@ -1,8 +1,8 @@
 -- What follows from the laws of a kind of rate alone: the order, none, and the better of two.
 -- Assumes the laws.
-use Rattle.std.specs.Prelude.{◌≡◌, Bool, true, false, cond, T, ◌⊎◌, ◌≢◌, refl}
-use Rattle.std.proofs.Common.{sym, ap, subst, ◌∙◌, true≢false, inl, inr, ⊎_elim}
-use Rattle.std.proofs.lemmas.Bool.{cases_Bool, cond_both, both_ways, false≢true}
+use Rattle.std.specs.Prelude.{◌≡◌, true, T, ◌⊎◌, ◌≢◌, refl}
+use Rattle.std.proofs.Common.{sym, ap, subst, ◌∙◌, inl, inr, ⊎_elim}
+use Rattle.std.proofs.lemmas.Bool.{cases_Bool, cond_both, both_ways}
 use Rattle.rates.specs.Kinds.{Kind, Laws, NoWorse, stands}
 use Rattle.rates.specs.Many.{better_of}
 

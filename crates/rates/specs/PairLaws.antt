@@ -1,13 +1,13 @@
 -- A pair of a strict kind before any kind keeps the laws of a kind of rate.
 -- Assumes the laws of both kinds, and that the first is strict.
-use Rattle.std.specs.Prelude.{◌≡◌, ℕ, ◌+◌, ◌≤◌, max, Bool, true, false, cond, ◌&&◌, T, ◌⊎◌, ◌≢◌, refl}
+use Rattle.std.specs.Prelude.{◌≡◌, ℕ, ◌+◌, ◌≤◌, Bool, true, false, cond, T, ◌⊎◌, ◌≢◌, refl}
 use Rattle.std.proofs.Common.{sym, ap, subst, ◌∙◌, true≢false, inl, inr, ⊎_elim, arith}
-use Rattle.std.proofs.lemmas.Bool.{cases_Bool, and_parts, false≢true}
-use Rattle.rates.specs.Kinds.{Kind, Laws, Strictness, NoWorse, Such, stands}
+use Rattle.std.proofs.lemmas.Bool.{and_parts, false≢true}
+use Rattle.rates.specs.Kinds.{Kind, Laws, Strictness, NoWorse, stands}
 use Rattle.rates.specs.Pairs.{Other, Couple, by_tests, couple_of, joined, before, couple_size, both_lane_rates, pair_kind}
 use Rattle.rates.specs.Pairs.Couple.{no_couple, couple}
 use Rattle.rates.specs.Such.{such_same}
-use Rattle.rates.specs.Order.{le_refl, le_trans, le_better, not_both, better_le, le_better_trans, three_ways, stands_from, none_stands_not, le_from}
+use Rattle.rates.specs.Order.{le_trans, le_better, not_both, better_le, three_ways, stands_from, none_stands_not, le_from}
 
 -- the join of two members other than none is another such
 abbrev other_join : {M : Type 0} (K : Kind M) → Laws K → Other K → Other K → Other K

@@ -1,6 +1,6 @@
 -- A pair of kinds of rate, the first before the second: none, or a member of each other than none.
 -- Assumes nothing; that it keeps the laws asks that the first kind is strict.
-use Rattle.std.specs.Prelude.{◌≡◌, ℕ, max, Bool, true, false, cond, ◌&&◌, T, refl}
+use Rattle.std.specs.Prelude.{ℕ, max, Bool, true, false, cond, ◌&&◌, T}
 use Rattle.rates.specs.Kinds.{Kind, Such, stands}
 
 -- A member other than none.

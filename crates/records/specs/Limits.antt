@@ -1,6 +1,6 @@
 -- The row of limits: how many triangles a piece may have at each second level.
 -- Assumes nothing.
-use Rattle.std.specs.Prelude.{◌≡◌, ℕ, ◌+◌, ◌*◌, ◌/◌, ◌<◌, ◌≤◌, List, [], ◌∷◌, length, slice_index}
+use Rattle.std.specs.Prelude.{◌≡◌, ℕ, ◌+◌, ◌*◌, ◌/◌, ◌<◌, ◌≤◌, List, [], ◌∷◌, slice_index}
 
 -- number k bounds the triangles of a piece at level 2k; there are none past the last
 abbrev pub limits : List ℕ

@@ -1,8 +1,8 @@
 -- The preorder of a triangulated ring, place by place.
 -- Assumes nothing.
-use Rattle.std.proofs.Common.{◌≡◌, ℕ, ◌+◌, ◌-◌, ◌*◌, ◌<◌, ◌≤◌, length, sym, refl, ap, ◌∙◌, subst, add-zero, arith}
+use Rattle.std.proofs.Common.{◌≡◌, ℕ, ◌+◌, ◌-◌, ◌*◌, ◌<◌, ◌≤◌, sym, refl, ap, ◌∙◌, subst, add-zero, arith}
 use Rattle.trips.specs.Links.{Terminal}
-use Rattle.triangulation.specs.Trees.{Tree, leaf, node, RingTree, StandsIn, side_count, preorder, side, here, Before}
+use Rattle.triangulation.specs.Trees.{Tree, leaf, node, RingTree, StandsIn, side_count, here, Before}
 use Rattle.triangulation.specs.Geometry.{Places, LengthsFromPlaces, SidesByPlace, OneSubtreeAtAPlace, PreorderIsSorted, Parted, ReadByPlace}
 use Rattle.triangulation.proofs.Places.{spans_rises, length_preorder, stands_spans, stands_within, stands_side, stands_left, stands_right, Standing, standing, stands_one, stands_before}
 use Rattle.triangulation.proofs.Parts.{stands_parts}

@@ -1,16 +1,15 @@
 -- Where no closed trip earns and there are finitely many terminals, there is a best rate between any two,
 -- a trip without a terminal twice has it, and its size is bounded.
 -- Assumes the laws of the kind.
-use Rattle.std.proofs.Common.{◌≡◌, ℕ, zero, suc, ◌+◌, ◌-◌, ◌*◌, ◌<◌, ◌≤◌, Bool, true, false, cond, eqb, ◌⊎◌, List, [], ◌∷◌, length, sym, refl, ap, ◌∙◌, subst, inl, inr, ⊎_elim, mul-le-mul_right, add-mul, add_comm, one-mul, zero-mul, arith}
+use Rattle.std.proofs.Common.{◌≡◌, ℕ, zero, suc, ◌-◌, ◌*◌, ◌<◌, ◌≤◌, cond, eqb, length, sym, refl, ap, ◌∙◌, subst, inl, inr, ⊎_elim, mul-le-mul_right, add-mul, one-mul, arith}
 use Rattle.std.specs.List.{AllByRecursion as All}
-use Rattle.std.proofs.lemmas.Bool.{cases_Bool, eqb-true, eq-eqb, cond_both, cond-true, cases_order}
+use Rattle.std.proofs.lemmas.Bool.{eqb-true, eq-eqb, cond_both, cond-true, cases_order}
 use Rattle.rates.specs.Kinds.{Kind, Laws, NoWorse}
 use Rattle.rates.specs.Many.{better_of}
-use Rattle.rates.specs.Order.{le_refl, le_from, le_trans, le_none, same, none_or_stands, none_stands_not, join_right, better_of_first, better_of_second}
-use Rattle.trips.specs.Trips.{LaneMap, Standing, Trip, rate, lanes, stops, NoEarning, BestRate, Over, NoneTwice}
+use Rattle.rates.specs.Order.{le_from, le_trans, same, none_or_stands, none_stands_not, join_right, better_of_first, better_of_second}
+use Rattle.trips.specs.Trips.{LaneMap, Trip, rate, lanes, stops, NoEarning, Over, NoneTwice}
 use Rattle.trips.specs.Trips.Trip.{stay, go}
-use Rattle.trips.specs.Theorems.{Shortened}
-use Rattle.trips.proofs.Walks.{Reached, Unbeaten, Best, rate_of_best, rate_stands, unbeaten_reached, reached_stay, reached_join, reached_better}
+use Rattle.trips.proofs.Walks.{Reached, Best, reached_stay, reached_join, reached_better}
 use Rattle.trips.proofs.LoopRemoval.{shorten}
 use Rattle.trips.proofs.Pigeonhole.{pigeonhole}
 

@@ -1,13 +1,13 @@
 -- From best rates within two parts that meet in two terminals to best rates over both.
 -- Assumes the laws of the kind, two parts that meet, and that no closed trip earns.
-use Rattle.std.proofs.Common.{◌≡◌, ℕ, zero, suc, ◌+◌, ◌<◌, ◌≤◌, Bool, true, false, not, ◌⊎◌, sym, refl, ap, ◌∙◌, subst, inl, inr, ⊎_elim, arith}
+use Rattle.std.proofs.Common.{◌≡◌, ℕ, zero, suc, ◌≤◌, Bool, true, false, not, ◌⊎◌, sym, refl, ap, ◌∙◌, subst, inl, inr, ⊎_elim, arith}
 use Rattle.rates.specs.Kinds.{Kind, Laws, NoWorse}
 use Rattle.rates.specs.Many.{better_of}
-use Rattle.rates.specs.Order.{le_refl, le_from, le_trans, join_right, join_left, join_both, join_still, better_of_first, better_of_second, better_of_either}
-use Rattle.trips.specs.Trips.{LaneMap, Standing, Trip, rate, lanes, NoEarning, BestRate, Fewer}
+use Rattle.rates.specs.Order.{le_from, le_trans, join_left, join_both, join_still, better_of_first, better_of_second, better_of_either}
+use Rattle.trips.specs.Trips.{LaneMap, Standing, Trip, rate, lanes, NoEarning, Fewer}
 use Rattle.trips.specs.Trips.Trip.{stay, go}
 use Rattle.trips.specs.Climbs.{Meeting}
-use Rattle.trips.proofs.Walks.{append, rate_append, Reached, Unbeaten, Best, unbeaten_reached, reached_join, reached_better, reached_fewer, trip_fewer, rate_fewer, closed_no_better, closed_reached}
+use Rattle.trips.proofs.Walks.{Reached, Best, unbeaten_reached, reached_join, reached_better, reached_fewer, closed_reached}
 
 -- of two Bools the first is the second, or the other
 same_or_other : (a b : Bool) → (a ≡ b) ⊎ (a ≡ not b)

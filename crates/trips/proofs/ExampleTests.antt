@@ -1,8 +1,7 @@
 -- A claim about a network of few terminals is shown by a test that is computed.
 -- Assumes nothing; the kinds keep the laws.
-use Rattle.std.proofs.Common.{◌≡◌, ℕ, zero, suc, ◌+◌, ◌-◌, ◌<◌, ◌≤◌, Bool, true, false, cond, not, ◌&&◌, ◌||◌, T, eqb, ltb, ◌⊎◌, List, [], ◌∷◌, sym, refl, ap, ◌∙◌, subst, inl, inr, ⊎_elim, arith}
-use Rattle.std.specs.List.{AllByRecursion as All}
-use Rattle.std.proofs.lemmas.Bool.{cases_Bool, and_parts, or_cases, not-true, ltb-true, cond-true, cond-false, cases_order, eqb-true}
+use Rattle.std.proofs.Common.{◌≡◌, ℕ, zero, suc, ◌-◌, ◌<◌, Bool, true, false, not, ◌&&◌, ◌||◌, eqb, ltb, ◌⊎◌, List, [], ◌∷◌, sym, refl, ap, ◌∙◌, subst, inl, inr, ⊎_elim, arith}
+use Rattle.std.proofs.lemmas.Bool.{cases_Bool, and_parts, or_cases, not-true, ltb-true, cond-false, cases_order, eqb-true}
 use Rattle.rates.specs.Kinds.{Kind, Laws, NoWorse}
 use Rattle.rates.specs.Order.{same, not_both, le_refl, le_none, le_from}
 use Rattle.rates.specs.AmountLaws.{cents_laws, cents_strict}
@@ -10,14 +9,12 @@ use Rattle.rates.specs.LoadLaws.{tonnes_laws}
 use Rattle.rates.specs.PairLaws.{pair_laws}
 use Rattle.rates.specs.Amounts.{cents_kind}
 use Rattle.rates.specs.Loads.{tonnes_kind}
-use Rattle.trips.specs.Trips.{LaneMap, Standing, Trip, rate, lanes, Earning, NoEarning, BestRate, Over, changed}
+use Rattle.trips.specs.Trips.{LaneMap, Trip, rate, lanes, Earning, NoEarning, BestRate, Over}
 use Rattle.trips.specs.Trips.Trip.{stay, go}
 use Rattle.trips.specs.Theorems.{Relaxed}
-use Rattle.trips.proofs.Walks.{Best, Reached, rate_of_best, best_unique, closed_no_better}
 use Rattle.trips.proofs.BestExists.{within, within_reached}
-use Rattle.trips.proofs.Tables.{relaxed_unbeaten}
 use Rattle.trips.proofs.Shown.{relaxed_table_is_best, relaxed_table_earns_not}
-use Rattle.trips.specs.Examples.{Kinds, Member, kind_of, Lane, network, Claim, Holds}
+use Rattle.trips.specs.Examples.{Kinds, kind_of, Lane, network, Claim, Holds}
 use Rattle.trips.specs.Examples.Kinds.{in_cents, in_tonnes, in_cents_before_tonnes}
 use Rattle.trips.specs.Examples.Claim.{best, earns, earns_not}
 

@@ -1,12 +1,12 @@
 -- When giving one lane another rate makes a closed trip earn.
 -- Assumes the laws of the kind.
-use Rattle.std.proofs.Common.{◌≡◌, ℕ, ◌+◌, ◌<◌, ◌≤◌, Bool, true, false, cond, ◌&&◌, eqb, ◌⊎◌, sym, refl, ap, ◌∙◌, subst, inl, inr, ⊎_elim, arith}
-use Rattle.std.proofs.lemmas.Bool.{cases_Bool, and_parts, and_from, and_left, eqb-true, eq-eqb, ne_eqb, cond-true, cond-false, true≢false}
+use Rattle.std.proofs.Common.{◌≡◌, ℕ, true, ◌&&◌, eqb, ◌⊎◌, sym, refl, ap, ◌∙◌, subst, inl, inr, ⊎_elim, arith}
+use Rattle.std.proofs.lemmas.Bool.{cases_Bool, and_parts, and_from, eqb-true, eq-eqb, cond-true, cond-false}
 use Rattle.rates.specs.Kinds.{Kind, Laws, NoWorse}
-use Rattle.rates.specs.Order.{le_refl, le_from, le_trans, le_none, le_or_better, le_better, not_both, same, join_none, join_right, join_left, join_both, left_commutative}
-use Rattle.trips.specs.Trips.{LaneMap, Standing, Trip, rate, lanes, stops, Earning, NoEarning, BestRate, changed, NoneTwice}
+use Rattle.rates.specs.Order.{le_from, le_trans, le_none, le_or_better, not_both, join_none, join_right, join_left, left_commutative}
+use Rattle.trips.specs.Trips.{LaneMap, Standing, Trip, rate, lanes, stops, Earning, NoEarning, changed, NoneTwice}
 use Rattle.trips.specs.Trips.Trip.{stay, go}
-use Rattle.trips.proofs.Walks.{append, rate_append, Reached, Unbeaten, Best, closed_no_better, no_earning}
+use Rattle.trips.proofs.Walks.{append, rate_append, Best, closed_no_better, no_earning}
 use Rattle.trips.proofs.LoopRemoval.{Passes, end_passed, absent_not_passed}
 use Rattle.trips.proofs.BestExists.{simple_best}
 

@@ -1,14 +1,13 @@
 -- Every trip has one with the same ends, no terminal twice, and a rate no worse, where no closed trip earns.
 -- Assumes the laws of the kind.
-use Rattle.std.proofs.Common.{◌≡◌, ℕ, zero, suc, ◌+◌, ◌-◌, ◌*◌, ◌<◌, ◌≤◌, ◌⊎◌, List, [], ◌∷◌, length, sym, refl, ap, ◌∙◌, subst, inl, inr, ⊎_elim, arith}
-use Rattle.std.specs.List.{AllByRecursion as All}
+use Rattle.std.proofs.Common.{◌≡◌, ℕ, ◌+◌, ◌⊎◌, sym, refl, ap, ◌∙◌, subst, inl, inr, ⊎_elim, arith}
 use Rattle.std.proofs.lemmas.Bool.{cases_eq}
 use Rattle.rates.specs.Kinds.{Kind, Laws, NoWorse}
 use Rattle.rates.specs.Order.{le_refl, le_from, le_trans, join_right, join_left}
-use Rattle.trips.specs.Trips.{LaneMap, Standing, Trip, rate, lanes, stops, NoEarning, BestRate, Over, Absent, NoneTwice}
+use Rattle.trips.specs.Trips.{LaneMap, Standing, Trip, rate, lanes, stops, NoEarning, Absent, NoneTwice}
 use Rattle.trips.specs.Trips.Trip.{stay, go}
 use Rattle.trips.specs.Theorems.{Shortened}
-use Rattle.trips.proofs.Walks.{append, rate_append, closed_no_better}
+use Rattle.trips.proofs.Walks.{closed_no_better}
 
 module _ {M : Type 0} (K : Kind M) (X : Laws K) where
   -- x is a stop of the trip

@@ -1,9 +1,9 @@
 -- A trip taken backward over the lanes turned round has the same rate.
 -- Assumes the laws of the kind.
-use Rattle.std.proofs.Common.{◌≡◌, ℕ, Bool, true, ◌⊎◌, sym, refl, ap, ◌∙◌, inl, inr}
+use Rattle.std.proofs.Common.{◌≡◌, ℕ, Bool, sym, refl, ap, ◌∙◌, inl, inr}
 use Rattle.rates.specs.Kinds.{Kind, Laws, NoWorse}
 use Rattle.rates.specs.Order.{join_still}
-use Rattle.trips.specs.Trips.{LaneMap, Standing, Trip, rate, NoEarning}
+use Rattle.trips.specs.Trips.{LaneMap, Trip, rate, NoEarning}
 use Rattle.trips.specs.Trips.Trip.{stay, go}
 use Rattle.trips.specs.Climbs.{Meeting}
 use Rattle.trips.proofs.Walks.{append, rate_append, Reached, Best, closed_no_better, no_earning}

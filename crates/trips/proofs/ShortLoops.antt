@@ -1,13 +1,13 @@
 -- Over n terminals, if no closed trip of at most n lanes earns, none does.
 -- Assumes the laws of the kind.
-use Rattle.std.proofs.Common.{◌≡◌, ℕ, zero, suc, ◌+◌, ◌-◌, ◌<◌, ◌≤◌, ◌⊎◌, sym, refl, ap, ◌∙◌, subst, inl, inr, ⊎_elim, arith}
+use Rattle.std.proofs.Common.{◌≡◌, ℕ, zero, suc, ◌+◌, ◌<◌, ◌≤◌, ◌⊎◌, sym, refl, ap, ◌∙◌, subst, inl, inr, ⊎_elim, arith}
 use Rattle.std.proofs.lemmas.Bool.{cases_lt}
 use Rattle.rates.specs.Kinds.{Kind, Laws, NoWorse}
 use Rattle.rates.specs.Order.{le_refl, le_from, le_trans, join_right, join_left}
-use Rattle.trips.specs.Trips.{LaneMap, Standing, Trip, rate, lanes, stops, NoEarning, Over, NoneTwice}
+use Rattle.trips.specs.Trips.{LaneMap, Trip, rate, lanes, stops, NoEarning, Over, NoneTwice}
 use Rattle.trips.specs.Trips.Trip.{stay, go}
 use Rattle.trips.proofs.Walks.{append, rate_append, no_earning}
-use Rattle.trips.proofs.LoopRemoval.{passes_or_absent, Cut, cut}
+use Rattle.trips.proofs.LoopRemoval.{passes_or_absent, cut}
 use Rattle.trips.proofs.BestExists.{few_lanes}
 
 module _ {M : Type 0} (K : Kind M) (X : Laws K) where

@@ -1,14 +1,14 @@
 -- The theorems in the words of their statements.
 -- Assumes the laws of the kind.
-use Rattle.std.proofs.Common.{◌≡◌, ℕ, ◌+◌, ◌<◌, ◌≤◌, Bool, true, false, cond, not, ◌&&◌, eqb, ◌⊎◌, List, [], ◌∷◌, sym, refl, ap, ◌∙◌, subst, inl, inr, ⊎_elim, arith}
+use Rattle.std.proofs.Common.{◌≡◌, ℕ, ◌<◌, Bool, not, ◌&&◌, eqb, List, [], ◌∷◌, sym, refl, ap, subst, ⊎_elim, arith}
 use Rattle.std.proofs.lemmas.Bool.{cases_Bool, cond-true, cond-false}
 use Rattle.rates.specs.Kinds.{Kind, Laws, NoWorse}
 use Rattle.rates.specs.Order.{same, le_none, not_both}
-use Rattle.trips.specs.Trips.{LaneMap, Standing, Trip, rate, lanes, stops, Earning, NoEarning, BestRate, Over, Fewer, changed}
+use Rattle.trips.specs.Trips.{LaneMap, Trip, rate, lanes, stops, BestRate, Over, Fewer, changed}
 use Rattle.trips.specs.Trips.Trip.{stay, go}
-use Rattle.trips.specs.Theorems.{BestRateUnique, LoopsLeftOut, FewLanesEnough, BestRateBounded, BestRateExists, SimpleTripIsBest, EarningTest, ShuttingNeverEarns, FewerLanesNoBetter, Relaxed, RelaxedTableIsBest, RelaxedTableEarnsNot, Linked, rate_along, final, SameStops, StopsAreATrip}
-use Rattle.trips.specs.Climbs.{Known, RowShows, ColumnShows, TableShows, ClimbIsBest, MirroredClimbIsBest, RowsAndColumnsMeet}
-use Rattle.trips.proofs.Walks.{Best, best_of_rate, rate_of_best, best_unique, rate_stands, unbeaten_reached, trip_fewer, rate_fewer, reached_fewer, closed_no_better, no_earning, no_earning_fewer}
+use Rattle.trips.specs.Theorems.{BestRateUnique, LoopsLeftOut, FewLanesEnough, BestRateBounded, BestRateExists, SimpleTripIsBest, EarningTest, ShuttingNeverEarns, FewerLanesNoBetter, RelaxedTableIsBest, RelaxedTableEarnsNot, Linked, final, SameStops, StopsAreATrip}
+use Rattle.trips.specs.Climbs.{Known, ClimbIsBest, MirroredClimbIsBest, RowsAndColumnsMeet}
+use Rattle.trips.proofs.Walks.{best_of_rate, rate_of_best, best_unique, rate_stands, unbeaten_reached, trip_fewer, rate_fewer, reached_fewer, no_earning_fewer}
 use Rattle.trips.proofs.LoopRemoval.{shorten}
 use Rattle.trips.proofs.BestExists.{few_lanes, best_size, best_exists, simple_best}
 use Rattle.trips.proofs.LaneChange.{earning_test}

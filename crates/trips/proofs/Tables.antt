@@ -1,12 +1,12 @@
 -- A table that no lane can better, and whose entries are each none or some trip's rate, has the best rates.
 -- Assumes the laws of the kind.
-use Rattle.std.proofs.Common.{◌≡◌, ℕ, ◌<◌, ◌⊎◌, sym, refl, ap, ◌∙◌, subst, inl, inr}
+use Rattle.std.proofs.Common.{ℕ, ◌<◌, sym, ◌∙◌, subst}
 use Rattle.rates.specs.Kinds.{Kind, Laws, NoWorse}
-use Rattle.rates.specs.Order.{le_trans, le_from, join_left, join_right}
-use Rattle.trips.specs.Trips.{LaneMap, Standing, Trip, rate, NoEarning, Over}
+use Rattle.rates.specs.Order.{le_trans, le_from, join_left}
+use Rattle.trips.specs.Trips.{LaneMap, Standing, Trip, rate, Over}
 use Rattle.trips.specs.Trips.Trip.{stay, go}
 use Rattle.trips.specs.Theorems.{Relaxed}
-use Rattle.trips.proofs.Walks.{Best, Unbeaten, no_earning}
+use Rattle.trips.proofs.Walks.{Unbeaten}
 
 module _ {M : Type 0} (K : Kind M) (X : Laws K) where
   -- along a trip from v, the entry for its end is no worse than the entry for v joined with the trip's rate

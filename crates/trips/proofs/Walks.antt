@@ -1,10 +1,10 @@
 -- Trips put end to end, and a best rate in two halves: it is reached, and it is not beaten.
 -- Assumes the laws of the kind.
-use Rattle.std.proofs.Common.{◌≡◌, ℕ, ◌+◌, ◌<◌, ◌≤◌, Bool, true, false, ◌⊎◌, sym, refl, ap, ◌∙◌, subst, inl, inr, ⊎_elim, arith}
+use Rattle.std.proofs.Common.{◌≡◌, ℕ, ◌<◌, ◌⊎◌, sym, refl, ap, ◌∙◌, subst, inl, inr, ⊎_elim, arith}
 use Rattle.rates.specs.Kinds.{Kind, Laws, NoWorse}
 use Rattle.rates.specs.Many.{better_of}
-use Rattle.rates.specs.Order.{le_refl, le_from, le_trans, le_none, le_or_better, not_both, same, join_none, better_of_first, better_of_second, better_of_greatest, better_of_either}
-use Rattle.trips.specs.Trips.{LaneMap, Standing, Trip, rate, lanes, Earning, NoEarning, BestRate, Fewer}
+use Rattle.rates.specs.Order.{le_from, le_none, le_or_better, not_both, same, join_none, better_of_either}
+use Rattle.trips.specs.Trips.{LaneMap, Trip, rate, lanes, NoEarning, BestRate, Fewer}
 use Rattle.trips.specs.Trips.Trip.{stay, go}
 
 module _ {M : Type 0} (K : Kind M) (X : Laws K) where

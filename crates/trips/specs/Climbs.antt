@@ -1,6 +1,6 @@
 -- Two parts of a network that meet in two terminals, and the climb from best rates within them to best rates over both.
 -- Assumes nothing; the theorems name their premises.
-use Rattle.std.specs.Prelude.{◌≡◌, ℕ, Bool, true, false, cond, not, ◌⊎◌}
+use Rattle.std.specs.Prelude.{◌≡◌, ℕ, Bool, true, false, not}
 use Rattle.rates.specs.Kinds.{Kind}
 use Rattle.rates.specs.Many.{better_of}
 use Rattle.trips.specs.Trips.{LaneMap, Standing, NoEarning, BestRate}

@@ -1,6 +1,6 @@
 -- Ten worked examples of best rates, closed trips that earn, and links that cross, as one table.
 -- Assumes nothing.
-use Rattle.std.specs.Prelude.{ℕ, Bool, true, false, List, [], ◌∷◌, ℤ, pos, negsuc}
+use Rattle.std.specs.Prelude.{ℕ, List, [], ◌∷◌, ℤ, pos, negsuc}
 use Rattle.std.specs.List.{AllByRecursion as All}
 use Rattle.rates.specs.Kinds.{Kind}
 use Rattle.rates.specs.Amounts.{Amount, cents_kind}

@@ -1,6 +1,6 @@
 -- The theorems on trips and best rates, each for every kind of rate that keeps the laws.
 -- Assumes nothing; each statement names its premises.
-use Rattle.std.specs.Prelude.{◌≡◌, ℕ, ◌+◌, ◌-◌, ◌*◌, ◌<◌, ◌≤◌, Bool, true, false, ◌⊎◌, List, [], ◌∷◌}
+use Rattle.std.specs.Prelude.{◌≡◌, ℕ, ◌-◌, ◌*◌, ◌<◌, ◌≤◌, true, ◌⊎◌, List, [], ◌∷◌}
 use Rattle.rates.specs.Kinds.{Kind, NoWorse}
 use Rattle.trips.specs.Trips.{LaneMap, Standing, Trip, rate, lanes, stops, Earning, NoEarning, BestRate, Over, Fewer, changed, NoneTwice}
 

@@ -1,6 +1,6 @@
 -- Lane maps, trips, and best rates.
 -- Assumes nothing; the kind of rate is any.
-use Rattle.std.specs.Prelude.{◌≡◌, ℕ, ◌+◌, ◌<◌, ◌≤◌, Bool, true, false, cond, ◌&&◌, ◌⊎◌, List, [], ◌∷◌, ◌==◌, ◌≢◌}
+use Rattle.std.specs.Prelude.{◌≡◌, ℕ, ◌+◌, ◌<◌, Bool, true, cond, ◌&&◌, ◌⊎◌, List, [], ◌∷◌, ◌==◌, ◌≢◌}
 use Rattle.rates.specs.Kinds.{Kind, NoWorse}
 
 -- A lane map (a directed graph with weights): a member for every ordered pair of terminals, none where no lane stands.

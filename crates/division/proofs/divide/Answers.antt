@@ -1,7 +1,6 @@
-use Rattle.std.proofs.Common.{◌≡◌, ◌+◌, ◌-◌, ◌*◌, Bool, true, take, sym, ap, ◌∙◌, subst, arith}
+use Rattle.std.proofs.Common.{◌≡◌, ◌+◌, ◌-◌, ◌*◌, sym, arith}
 use Rattle.std.proofs.lemmas.Bool.{true≢false}
-use Rattle.pieces.specs.Sides.{ends_of}
-use Rattle.division.specs.Outcome.{Lent, FrontDone}
+use Rattle.division.specs.Outcome.{Lent}
 use Rattle.division.proofs.Fronts.{kept, fitting, front_divided}
 use Rattle.division.proofs.divide.Goals as goal
 

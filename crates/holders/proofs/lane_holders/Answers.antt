@@ -1,5 +1,5 @@
-use Rattle.std.proofs.Common.{◌≡◌, get_or, ap, subst, arith}
-use Rattle.pieces.specs.Sides.{no_side, span}
+use Rattle.std.proofs.Common.{get_or}
+use Rattle.pieces.specs.Sides.{no_side}
 use Rattle.holders.proofs.Steps.{walked_holders}
 use Rattle.holders.proofs.lane_holders.Goals as goal
 

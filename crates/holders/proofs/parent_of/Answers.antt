@@ -1,4 +1,4 @@
-use Rattle.std.proofs.Common.{◌≡◌, ap, arith}
+use Rattle.std.proofs.Common.{ap, arith}
 use Rattle.std.proofs.lemmas.List.{get_or_default}
 use Rattle.records.specs.declared.Piece.{Piece}
 use Rattle.pieces.specs.Cuts.{whole}

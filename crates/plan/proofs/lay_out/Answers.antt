@@ -1,4 +1,4 @@
-use Rattle.std.proofs.Common.{◌≡◌, ◌+◌, ◌*◌, ◌≤◌, List, length, Ok, Err, refl, arith}
+use Rattle.std.proofs.Common.{◌+◌, ◌*◌, length, Ok, Err, refl, arith}
 use Rattle.std.proofs.lemmas.Result.{err_from_is_err_and}
 use Rattle.ring.specs.Faults.{Condition}
 use Rattle.ring.proofs.Firsts.{first_early, first_of_all}

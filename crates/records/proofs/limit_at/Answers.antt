@@ -1,4 +1,4 @@
-use Rattle.std.proofs.Common.{sym, refl, arith, rules}
+use Rattle.std.proofs.Common.{sym, refl, arith}
 use Rattle.std.proofs.lemmas.List.{get_or_past}
 use Rattle.records.specs.Limits.{limits, limit}
 use Rattle.records.proofs.RowOfLimits.{row_of_limits}

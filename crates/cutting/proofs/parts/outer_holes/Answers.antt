@@ -1,4 +1,4 @@
-use Rattle.std.proofs.Common.{ℕ, ap, ◌∙◌}
+use Rattle.std.proofs.Common.{ap, ◌∙◌}
 use Rattle.pieces.specs.Sides.{lengths}
 use Rattle.pieces.specs.Cuts.{chosen}
 use Rattle.records.specs.declared.Few.{Few}

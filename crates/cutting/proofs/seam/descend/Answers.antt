@@ -1,4 +1,4 @@
-use Rattle.std.proofs.Common.{◌≡◌, suc, ◌+◌, ◌-◌, sym, refl, ap, ◌∙◌, arith}
+use Rattle.std.proofs.Common.{◌≡◌, suc, ◌+◌, ◌-◌, sym, ap, ◌∙◌, arith}
 use Rattle.pieces.specs.Sides.{lengths}
 use Rattle.pieces.specs.Cuts.{descend, weight}
 use Rattle.records.specs.Few.{listed}

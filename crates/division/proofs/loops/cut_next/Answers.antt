@@ -1,8 +1,7 @@
-use Rattle.std.proofs.Common.{◌≡◌, ℕ, sym, refl, ap, ◌∙◌, inl, inr, arith}
-use Rattle.records.specs.declared.Piece.{Piece}
-use Rattle.pieces.specs.Sides.{ends_of, span, lengths}
+use Rattle.std.proofs.Common.{◌≡◌, ℕ, ap, ◌∙◌, inl, inr}
+use Rattle.pieces.specs.Sides.{ends_of, lengths}
 use Rattle.pieces.specs.Cuts.{parted, size, first_part, second_part}
-use Rattle.pieces.specs.Order.{first_of, second_of, cut_record, seam_in}
+use Rattle.pieces.specs.Order.{first_of, cut_record, seam_in}
 use Rattle.division.proofs.Turning.{turn_uncut, turn_cut, turn_none}
 use Rattle.division.proofs.loops.cut_next.Goals as goal
 

@@ -1,6 +1,5 @@
-use Rattle.std.proofs.Common.{◌≡◌, ℕ, ◌<◌, take, sym, refl, ap, ◌∙◌, subst, arith}
+use Rattle.std.proofs.Common.{◌≡◌, ℕ, take, sym, refl, ◌∙◌, subst, arith}
 use Rattle.std.proofs.lemmas.Bool.{true≢false}
-use Rattle.stack.specs.Moves.{PutOn}
 use Rattle.pieces.specs.Sides.{ends_of}
 use Rattle.pieces.specs.Cuts.{whole}
 use Rattle.pieces.specs.Order.{Records}

@@ -1,4 +1,4 @@
-use Rattle.std.proofs.Common.{suc, List, sym, refl, ap, ◌∙◌, add-one}
+use Rattle.std.proofs.Common.{List, sym, refl, ap, ◌∙◌, add-one}
 use Rattle.ring.specs.declared.Side.{Side}
 use Rattle.pieces.specs.Marks.{mark_all, mark_piece}
 use Rattle.pieces.specs.Holding.{piece_at}

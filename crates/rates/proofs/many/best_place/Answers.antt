@@ -1,4 +1,4 @@
-use Rattle.std.proofs.Common.{◌≡◌, ◌+◌, map, length, sym, ◌∙◌, subst, arith}
+use Rattle.std.proofs.Common.{◌+◌, map, length, sym, subst, arith}
 use Rattle.std.proofs.lemmas.Bool.{eqb-false}
 use Rattle.rates.specs.Many.{FirstBest}
 use Rattle.rates.proofs.Choosing.{first_best_0, first_best_moves, first_best_stays}

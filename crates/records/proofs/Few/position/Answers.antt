@@ -1,4 +1,4 @@
-use Rattle.std.proofs.Common.{arith, rules}
+use Rattle.std.proofs.Common.{arith}
 use Rattle.records.specs.Few.{listed}
 use Rattle.records.proofs.Absent.{absent}
 use Rattle.records.proofs.Few.position.Goals as goal
