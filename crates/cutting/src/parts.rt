@@ -1,7 +1,7 @@
 // The two parts of a cut, and the finished record of a piece.
 ghost use Rattle.std.specs.Prelude.{◌≡◌, if◌then◌else◌, fold};
 ghost use Rattle.cutting.specs.Places.{passes};
-ghost use Rattle.pieces.specs.Cuts.{around as aroundSide, chosen as chosenBy, first_part, fresh as freshPiece, inner_holes, outer_holes, parted as partedRecord, rim as rimOf, second_part, single as singleRecord, whole as wholePlan};
+ghost use Rattle.pieces.specs.Cuts.{around as around_side, chosen as chosen_by, first_part, fresh as fresh_piece, inner_holes, outer_holes, parted as parted_record, rim as rim_of, second_part, single as single_record, whole as whole_plan};
 ghost use Rattle.pieces.specs.Sides.{ends_of, lengths};
 ghost use Rattle.records.specs.Few.{added, listed};
 
@@ -41,7 +41,7 @@ fn choose(sides: &[Side], place: Place, v: u16, to: Few, hole: u16) -> Few
 
 // The holes that stand at a place of the seam v, put behind those in `to`.
 fn chosen(sides: &[Side], place: Place, v: u16, to: Few, holes: Few) -> Few
-    ensures { result ≡ chosenBy (passes (lengths sides.now) place v) to (listed holes) }
+    ensures { result ≡ chosen_by (passes (lengths sides.now) place v) to (listed holes) }
 {
     let mut to = to;
     for k in 0..holes.len() {
@@ -67,7 +67,7 @@ fn outer_holes(sides: &[Side], v: u16, holes: Few) -> Few
 
 // A piece that is still to be cut.
 fn fresh(parent: u16, level: u8, top: u16, holes: Few) -> Piece
-    ensures { result ≡ freshPiece parent level top holes }
+    ensures { result ≡ fresh_piece parent level top holes }
 {
     Piece {
         parent,
@@ -83,7 +83,7 @@ fn fresh(parent: u16, level: u8, top: u16, holes: Few) -> Piece
 
 // The whole plan, still to be cut.
 pub fn whole() -> Piece
-    ensures { result ≡ wholePlan }
+    ensures { result ≡ whole_plan }
 {
     fresh(0, 0, 0, Few::none())
 }
@@ -106,7 +106,7 @@ pub fn second_part(sides: &[Side], p: u16, piece: Piece, v: u16) -> Piece
 
 // Both ends of the side h behind rising terminals.
 fn around(sides: &[Side], edges: Few, h: u16) -> Few
-    ensures { result ≡ aroundSide (ends_of sides.now) edges h }
+    ensures { result ≡ around_side (ends_of sides.now) edges h }
 {
     edges
         .push_rising(low_end(sides, h))
@@ -115,7 +115,7 @@ fn around(sides: &[Side], edges: Few, h: u16) -> Few
 
 // The ends of the holes behind rising terminals.
 fn around_holes(sides: &[Side], edges: Few, holes: Few) -> Few
-    ensures { result ≡ fold (aroundSide (ends_of sides.now)) edges (listed holes) }
+    ensures { result ≡ fold (around_side (ends_of sides.now)) edges (listed holes) }
 {
     let mut edges = edges;
     for k in 0..holes.len() {
@@ -126,7 +126,7 @@ fn around_holes(sides: &[Side], edges: Few, holes: Few) -> Few
 
 // The ends of the bounding seams in rising order.
 fn rim(sides: &[Side], top: u16, holes: Few) -> Few
-    ensures { result ≡ rimOf (ends_of sides.now) top (listed holes) }
+    ensures { result ≡ rim_of (ends_of sides.now) top (listed holes) }
 {
     if top == 0 {
         return around_holes(sides, Few::none(), holes);
@@ -137,7 +137,7 @@ fn rim(sides: &[Side], top: u16, holes: Few) -> Few
 
 // The finished record of a piece of one triangle.
 pub fn single(sides: &[Side], uncut: Piece) -> Piece
-    ensures { result ≡ singleRecord (ends_of sides.now) uncut }
+    ensures { result ≡ single_record (ends_of sides.now) uncut }
 {
     Piece {
         parent: uncut.parent,
@@ -153,7 +153,7 @@ pub fn single(sides: &[Side], uncut: Piece) -> Piece
 
 // The finished record of the piece p, cut along v; its first part has `size` triangles.
 pub fn parted(sides: &[Side], p: u16, piece: Piece, v: u16, size: u16) -> Piece
-    ensures { result ≡ partedRecord (ends_of sides.now) p piece v size }
+    ensures { result ≡ parted_record (ends_of sides.now) p piece v size }
 {
     Piece {
         parent: piece.parent,

@@ -1,6 +1,6 @@
 // The side along which a piece is cut.
 ghost use Rattle.std.specs.Prelude.{◌≡◌};
-ghost use Rattle.pieces.specs.Cuts.{descend as descendTo, four as fourSeams, most as most_of, seam_of, weight as weightOf};
+ghost use Rattle.pieces.specs.Cuts.{descend as descend_to, four as four_seams, most as most_of, seam_of, weight as weight_of};
 ghost use Rattle.pieces.specs.Sides.{lengths};
 ghost use Rattle.records.specs.Few.{listed};
 
@@ -14,7 +14,7 @@ const HOLES_BELOW: usize = 2;
 
 // Whether a piece has four bounding seams: its holes, and its top unless that is the side 0.
 pub fn four(top: u16, holes: Few) -> bool
-    ensures { result ≡ fourSeams top (listed holes) }
+    ensures { result ≡ four_seams top (listed holes) }
 {
     let seams = if top == 0 {
         holes.len()
@@ -36,7 +36,7 @@ fn most(sides: &[Side], top: u16, holes: Few) -> usize
 
 // From the side `from` down to the heavier child while the weight is above `most`, in at most `steps` steps.
 fn descend(sides: &[Side], holes: Few, by_holes: bool, most: usize, steps: u16, from: u16) -> u16
-    ensures { result ≡ descendTo (lengths sides.now) (weightOf (lengths sides.now) by_holes (listed holes)) most steps from }
+    ensures { result ≡ descend_to (lengths sides.now) (weight_of (lengths sides.now) by_holes (listed holes)) most steps from }
 {
     let mut v = from;
     for i in 0..steps {

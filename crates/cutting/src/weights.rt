@@ -1,6 +1,6 @@
 // How much lies below a side: holes, or triangles outside the holes.
 ghost use Rattle.std.specs.Prelude.{◌≡◌, ◌-◌, cond, if◌then◌else◌};
-ghost use Rattle.pieces.specs.Cuts.{heavier as heavierChild, load as load_of, triangles as trianglesOf, weight as weightOf};
+ghost use Rattle.pieces.specs.Cuts.{heavier as heavier_child, load as load_of, triangles as triangles_of, weight as weight_of};
 ghost use Rattle.pieces.specs.Sides.{lengths, within};
 ghost use Rattle.records.specs.Few.{listed};
 
@@ -34,7 +34,7 @@ pub fn load(sides: &[Side], holes: Few, by_holes: bool, v: u16) -> usize
 
 // The triangles at or below the side v and below no hole.
 pub fn triangles(sides: &[Side], holes: Few, v: u16) -> u16
-    ensures { result ≡ trianglesOf (lengths sides.now) (listed holes) v }
+    ensures { result ≡ triangles_of (lengths sides.now) (listed holes) v }
 {
     let all = length_of(sides, v).saturating_sub(1) as usize;
     all.saturating_sub(load(sides, holes, false, v)) as u16
@@ -42,7 +42,7 @@ pub fn triangles(sides: &[Side], holes: Few, v: u16) -> u16
 
 // The weight of the side v: by holes, or by triangles.
 pub fn weight(sides: &[Side], holes: Few, by_holes: bool, v: u16) -> usize
-    ensures { result ≡ weightOf (lengths sides.now) by_holes (listed holes) v }
+    ensures { result ≡ weight_of (lengths sides.now) by_holes (listed holes) v }
 {
     if by_holes {
         load(sides, holes, true, v)
@@ -53,7 +53,7 @@ pub fn weight(sides: &[Side], holes: Few, by_holes: bool, v: u16) -> usize
 
 // The child of more weight, the left one where they have the same.
 pub fn heavier(sides: &[Side], holes: Few, by_holes: bool, v: u16) -> u16
-    ensures { result ≡ heavierChild (lengths sides.now) (weightOf (lengths sides.now) by_holes (listed holes)) v }
+    ensures { result ≡ heavier_child (lengths sides.now) (weight_of (lengths sides.now) by_holes (listed holes)) v }
 {
     let left = left_of(v);
     let right = right_of(sides, v);

@@ -1,7 +1,7 @@
 -- The join of an offered trip's lane rates is exact, since there are few and none is large.
 -- Assumes the laws of the kind.
 use Rattle.std.proofs.Common.{◌≡◌, ℕ, ◌+◌, ◌*◌, ◌<◌, ◌≤◌, Bool, true, false, not, List, [], ◌∷◌, map, length, get_or, sym, refl, ap, ◌∙◌, arith, below_more}
-use Rattle.std.specs.List.{AllByRecursion as All}
+use Rattle.std.specs.List.{AllByRecursion}
 use Rattle.std.proofs.lemmas.List.{get_or-map, length-map}
 use Rattle.std.proofs.ByRecursion.{All-from_get_or}
 use Rattle.std.proofs.lemmas.Bool.{not-true, not-false}
@@ -10,7 +10,7 @@ use Rattle.rates.specs.Many.{sizes, joined_all}
 use Rattle.offers.specs.Offers.{LaneRates, FirstNoLane, Offer, most_lanes}
 
 module _ {M : Type 0} (K : Kind M) (X : Laws K) where
-  sizes_bound : (lanes : List M) → All (λ a. K.lane a ≡ true) lanes → sizes K lanes ≤ 1000000000 * length lanes
+  sizes_bound : (lanes : List M) → AllByRecursion (λ a. K.lane a ≡ true) lanes → sizes K lanes ≤ 1000000000 * length lanes
   sizes_bound [] h = omega arith
   sizes_bound (a ∷ rest) (h, k) =
       omega (arith, X.lane_rate_size a h, X.limit_bounded, sizes_bound rest k)

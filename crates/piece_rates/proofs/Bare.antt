@@ -1,21 +1,19 @@
 -- Where no lane stands, the sheets of still and none show every piece's best rates.
 -- Assumes the laws of the kind.
-use Rattle.std.proofs.Common.{◌≡◌, ℕ, zero, suc, ◌+◌, ◌-◌, ◌*◌, ◌/◌, ◌%◌, ◌<◌, ◌≤◌, Bool, true, false, cond, ◌&&◌, eqb, ltb, ◌⊎◌, List, [], ◌∷◌, length, get_or, take, drop, sym, refl, ap, ◌∙◌, subst, inl, inr, ⊎_elim, arith, length-take}
-use Rattle.std.proofs.lemmas.Bool.{cases_order, cases_lt, cond-true, cond-false, cond_both, and_from, and_left, and_right, eq-eqb, ne_eqb, lt-ltb, le-ltb}
+use Rattle.std.proofs.Common.{◌≡◌, ℕ, zero, suc, ◌+◌, ◌*◌, ◌/◌, ◌%◌, ◌<◌, ◌≤◌, cond, ◌&&◌, eqb, ltb, ◌⊎◌, List, [], ◌∷◌, length, get_or, drop, sym, refl, ap, ◌∙◌, subst, inl, inr, ⊎_elim, arith, length-take}
+use Rattle.std.proofs.lemmas.Bool.{cases_order, cond-true, cond-false, cond_both, and_from, and_left, and_right, eq-eqb, ne_eqb, lt-ltb, le-ltb}
 use Rattle.std.proofs.lemmas.List.{get_or-take, get_or-drop}
-use Rattle.rates.specs.Kinds.{Kind, Laws, NoWorse}
+use Rattle.rates.specs.Kinds.{Kind, Laws}
 use Rattle.rates.specs.Order.{le_from}
-use Rattle.trips.specs.Trips.{LaneMap, Standing, Trip, rate, BestRate}
+use Rattle.trips.specs.Trips.{LaneMap, Trip, rate, BestRate}
 use Rattle.trips.specs.Trips.Trip.{stay, go}
 use Rattle.records.specs.declared.Piece.{Piece}
-use Rattle.records.specs.Few.{listed, Among, RisingFrom}
+use Rattle.records.specs.Few.{listed, RisingFrom}
 use Rattle.pieces.specs.Sides.{Ends}
 use Rattle.pieces.specs.Holding.{piece_at}
-use Rattle.pieces.specs.Division.{Division}
 use Rattle.piece_rates.specs.Lanes.{holds_lane, piece_lanes}
 use Rattle.piece_rates.specs.Sheets.{SheetShows, sheet_of}
-use Rattle.piece_rates.specs.Bare.{NoLanes, bare_place, BareSheets, BareSheetsShow}
-use Rattle.piece_rates.proofs.Sizes.{at_among}
+use Rattle.piece_rates.specs.Bare.{NoLanes, bare_place, BareSheetsShow}
 
 -- numbers that rise from a are at least a, and a later one is larger
 from_least : (a : ℕ) (xs : List ℕ) (j : ℕ) → RisingFrom a xs → j < length xs → a ≤ get_or xs j 0

@@ -1,21 +1,21 @@
 -- A plan in order stays one when a lane's rate changes, once the sheets of the pieces that hold the lane are rewritten.
 -- Assumes the laws of the kind.
-use Rattle.std.proofs.Common.{◌≡◌, ℕ, ◌+◌, ◌*◌, ◌<◌, ◌≤◌, Bool, true, false, cond, ◌&&◌, eqb, ◌⊎◌, List, length, get_or, set, sym, refl, ap, ◌∙◌, subst, inl, inr, ⊎_elim, arith, length-set}
-use Rattle.std.proofs.lemmas.Bool.{cases_Bool, cases_eq, cond-true, cond-false, and_parts, and_from, eqb-true, eq-eqb, both_ways}
+use Rattle.std.proofs.Common.{◌≡◌, ℕ, ◌+◌, ◌*◌, ◌<◌, ◌≤◌, Bool, true, false, ◌&&◌, eqb, ◌⊎◌, List, length, get_or, set, sym, ap, ◌∙◌, subst, inl, inr, ⊎_elim, arith, length-set}
+use Rattle.std.proofs.lemmas.Bool.{cases_Bool, cond-true, cond-false, and_parts, and_from, eqb-true, eq-eqb, both_ways}
 use Rattle.std.proofs.lemmas.List.{get_or-set_same, get_or-set_other}
-use Rattle.rates.specs.Kinds.{Kind, Laws}
-use Rattle.trips.specs.Trips.{LaneMap, Standing, changed}
+use Rattle.rates.specs.Kinds.{Kind}
+use Rattle.trips.specs.Trips.{LaneMap, changed}
 use Rattle.ring.specs.declared.Side.{Side}
 use Rattle.records.specs.declared.Piece.{Piece}
 use Rattle.records.specs.Few.{Among}
-use Rattle.pieces.specs.Sides.{Ends, ends_of, span, no_side, Filled, Belongs}
+use Rattle.pieces.specs.Sides.{Ends, ends_of, span, no_side, Belongs}
 use Rattle.pieces.specs.Holding.{piece_at}
 use Rattle.pieces.specs.Holders.{way_up, LaneHolders}
 use Rattle.pieces.proofs.LaneHolders.{lane_holders}
 use Rattle.piece_rates.specs.Lanes.{RunsAlong, HoldsLane, LanesShown}
 use Rattle.piece_rates.specs.Sheets.{sheet_of}
 use Rattle.piece_rates.specs.Sizes.{PlanLanes}
-use Rattle.piece_rates.specs.Changes.{lane_from, lane_to, lane_place, HeldBy, PlanStands, InOrder, AllShown, OffWayShown, SameBut, MayChange, LaneChanged}
+use Rattle.piece_rates.specs.Changes.{lane_from, lane_to, lane_place, HeldBy, PlanStands, AllShown, OffWayShown, SameBut, MayChange, LaneChanged}
 use Rattle.piece_rates.proofs.Changes.{lanes_stay, shows_same_lanes}
 use Rattle.piece_rates.proofs.OneSide.{triangle_range, lane_runs, one_place, runs_one, end_below, one_lane}
 use Rattle.piece_rates.proofs.Ways.{way_below, way_once}

@@ -1,19 +1,16 @@
 -- Sheets that are not written, and pieces whose lanes stay, show what they showed.
 -- Assumes the laws where a kind is named.
-use Rattle.std.proofs.Common.{◌≡◌, ℕ, ◌+◌, ◌-◌, ◌*◌, ◌<◌, ◌≤◌, Bool, true, false, cond, ◌⊎◌, List, ◌++◌, map, length, get_or, take, drop, sym, refl, ap, ◌∙◌, subst, inl, inr, ⊎_elim, arith, take-append-drop}
+use Rattle.std.proofs.Common.{◌≡◌, ℕ, ◌+◌, ◌-◌, ◌*◌, ◌<◌, true, cond, List, get_or, take, drop, sym, ap, ◌∙◌, subst, ⊎_elim, arith}
 use mathlib.Core.Path.{fun_ext}
 use Rattle.std.proofs.lemmas.Bool.{cases_order, cases_Bool, cond-true, cond-false}
 use Rattle.std.proofs.lemmas.List.{drop-take, drop-drop, take-take}
-use Rattle.rates.specs.Kinds.{Kind, Laws}
+use Rattle.rates.specs.Kinds.{Kind}
 use Rattle.trips.specs.Trips.{LaneMap, BestRate}
 use Rattle.records.specs.declared.Piece.{Piece}
 use Rattle.records.specs.Few.{listed}
-use Rattle.pieces.specs.Sides.{Ends, span, Filled, Belongs}
-use Rattle.pieces.specs.Holding.{piece_at, Holds}
-use Rattle.pieces.specs.Division.{Division}
-use Rattle.pieces.proofs.Places.{preorder}
+use Rattle.pieces.specs.Sides.{Ends}
 use Rattle.piece_rates.specs.Lanes.{RunsAlong, HoldsLane, holds_lane, piece_lanes}
-use Rattle.piece_rates.specs.Sheets.{SheetShows, sheet_of}
+use Rattle.piece_rates.specs.Sheets.{SheetShows}
 use Rattle.piece_rates.specs.Changes.{OnlySheet, SameBut}
 use Rattle.piece_rates.proofs.Holding.{holds_lane_found}
 

@@ -1,12 +1,12 @@
 -- In a division each cut piece has the shape that a climb asks for.
 -- Assumes the ends of a filled ring in preorder and a division of it.
-use Rattle.std.proofs.Common.{◌≡◌, ℕ, ◌+◌, ◌*◌, ◌<◌, ◌≤◌, ◌⊎◌, List, sym, refl, ap, ◌∙◌, subst, inl, inr, ⊎_elim, arith}
+use Rattle.std.proofs.Common.{◌≡◌, ℕ, ◌+◌, ◌*◌, ◌<◌, ◌≤◌, ◌⊎◌, List, sym, subst, inl, inr, ⊎_elim, arith}
 use Rattle.std.proofs.lemmas.Bool.{cases_eq}
 use Rattle.records.specs.declared.Piece.{Piece}
 use Rattle.records.specs.Few.{listed, Among}
-use Rattle.pieces.specs.Sides.{Ends, span, Filled, Inside, Child, Belongs, SideOf}
-use Rattle.pieces.specs.Holding.{piece_at, Holds, bounds, BoundingSeam, EndOf}
-use Rattle.pieces.specs.Division.{Division, CutInTwo, PieceStands}
+use Rattle.pieces.specs.Sides.{Ends, span, Filled, Inside, Child, SideOf}
+use Rattle.pieces.specs.Holding.{piece_at, Holds}
+use Rattle.pieces.specs.Division.{Division, CutInTwo}
 use Rattle.pieces.specs.Geometry.{PartedBySeam}
 use Rattle.pieces.proofs.Tree.{Fit, inside_fits, inside_trans, child_inside, parent_inside, lie}
 use Rattle.pieces.proofs.Places.{preorder, ends_between, ends_before}
@@ -15,7 +15,7 @@ use Rattle.pieces.proofs.Shown.{shown_holds}
 use Rattle.pieces.proofs.Clauses.{itself}
 use Rattle.pieces.proofs.Known.{bounds_cases}
 use Rattle.pieces.proofs.Geometry.{in_root, seams_part_lanes}
-use Rattle.piece_rates.specs.Lanes.{HoldsLane, RunsAlong}
+use Rattle.piece_rates.specs.Lanes.{RunsAlong}
 use Rattle.piece_rates.specs.Climbing.{CutShape, Outside}
 use Rattle.piece_rates.specs.Division.{CutsHaveShape}
 

@@ -1,12 +1,12 @@
 -- The test whether a piece holds a lane, and places in a list of terminals.
 -- Assumes nothing.
-use Rattle.std.proofs.Common.{◌≡◌, ℕ, zero, suc, ◌+◌, ◌-◌, ◌*◌, ◌<◌, ◌≤◌, Bool, true, false, cond, ◌&&◌, ◌||◌, eqb, leb, ◌⊎◌, List, [], ◌∷◌, length, get_or, Decides, sym, refl, ap, ◌∙◌, subst, inl, inr, ⊎_elim, arith}
+use Rattle.std.proofs.Common.{◌≡◌, ℕ, zero, suc, ◌+◌, ◌-◌, ◌*◌, ◌<◌, Bool, true, false, ◌&&◌, ◌||◌, eqb, leb, List, [], ◌∷◌, length, get_or, Decides, sym, ap, ◌∙◌, inl, inr, ⊎_elim, arith}
 use Rattle.std.proofs.lemmas.Bool.{and_parts, and_from, or_cases, or_left, or_right, eqb-true, eq-eqb, leb-true, le-leb, cases_order, false≢true, cond_both}
 use Rattle.std.proofs.lemmas.Bool.Decides.{Decides-and, Decides-or, Decides-eqb}
 use Rattle.records.specs.declared.Piece.{Piece}
 use Rattle.records.specs.Few.{Among}
-use Rattle.pieces.specs.Sides.{Ends, span, right_of, Child, Belongs}
-use Rattle.pieces.specs.Holding.{holds, Holds}
+use Rattle.pieces.specs.Sides.{Ends, span, right_of, Belongs}
+use Rattle.pieces.specs.Holding.{holds}
 use Rattle.piece_rates.specs.Lanes.{RunsAlong, HoldsLane, any, runs_along, belongs_to, holds_lane}
 use Rattle.piece_rates.specs.Climbing.{place, among}
 

@@ -1,23 +1,21 @@
 -- The lanes that a piece of one triangle holds, and why its sheet shows its best rates.
 -- Assumes the laws.
-use Rattle.std.proofs.Common.{◌≡◌, ℕ, ◌+◌, ◌-◌, ◌*◌, ◌<◌, ◌≤◌, Bool, true, false, cond, ◌&&◌, eqb, leb, ◌⊎◌, List, length, get_or, sym, refl, ap, ◌∙◌, subst, inl, inr, ⊎_elim, arith}
-use Rattle.std.proofs.lemmas.Bool.{and_parts, and_from, and_cases, cond_both, eqb-true, eqb-false, eq-eqb, leb-true, both_ways, true≢false}
+use Rattle.std.proofs.Common.{◌≡◌, ℕ, ◌+◌, ◌*◌, ◌<◌, ◌≤◌, Bool, true, false, cond, ◌&&◌, eqb, leb, ◌⊎◌, List, get_or, sym, refl, ap, ◌∙◌, subst, inl, inr, ⊎_elim, arith}
+use Rattle.std.proofs.lemmas.Bool.{and_parts, and_from, cond_both, eqb-true, eqb-false, eq-eqb, leb-true, both_ways, true≢false}
 use Rattle.rates.specs.Kinds.{Kind, Laws}
 use Rattle.rates.specs.Many.{better_of}
-use Rattle.trips.specs.Trips.{LaneMap, Standing, BestRate}
+use Rattle.trips.specs.Trips.{LaneMap, BestRate}
 use Rattle.records.specs.declared.Piece.{Piece}
 use Rattle.records.specs.Few.{listed}
-use Rattle.pieces.specs.Sides.{Ends, span, right_of, Filled, Halved, Child, Belongs, within}
-use Rattle.pieces.specs.Holding.{holds, Holds, clear}
-use Rattle.pieces.specs.Division.{Uncut}
+use Rattle.pieces.specs.Sides.{Ends, span, right_of, Halved, Child, within}
+use Rattle.pieces.specs.Holding.{clear}
 use Rattle.pieces.proofs.Tree.{Fit, left_fits, right_fits}
 use Rattle.pieces.proofs.Places.{preorder}
 use Rattle.pieces.proofs.Geometry.{in_root}
-use Rattle.piece_rates.specs.Lanes.{RunsAlong, HoldsLane, holds_lane, piece_lanes, LanesShown}
+use Rattle.piece_rates.specs.Lanes.{RunsAlong, HoldsLane, piece_lanes}
 use Rattle.piece_rates.specs.Sheets.{SheetShows}
-use Rattle.piece_rates.specs.Sizes.{largest, PlanLanes}
-use Rattle.piece_rates.specs.Triangles.{Corner, third_corner, Triangular, triangle_entry}
-use Rattle.piece_rates.specs.Leaves.{along, corner_lanes, rate_if, leaf_lanes, LanesWithin, LeafSheet, LeafStands, LeafLanesAreHeld, LeafShows}
+use Rattle.piece_rates.specs.Triangles.{third_corner, Triangular, triangle_entry}
+use Rattle.piece_rates.specs.Leaves.{along, rate_if, leaf_lanes, LanesWithin, LeafSheet, LeafStands, LeafLanesAreHeld, LeafShows}
 use Rattle.piece_rates.proofs.Parents.{lane_held, standing_held}
 use Rattle.piece_rates.proofs.Sizes.{none_or_not, lane_size, piece_no_earning}
 use Rattle.piece_rates.proofs.Triangles.{triangle_entries_best}

@@ -1,8 +1,8 @@
 -- A side is known by its two ends, and a place of the lane area by the ends of its lane in order.
 -- Assumes the ends of a filled ring in preorder.
-use Rattle.std.proofs.Common.{◌≡◌, ℕ, ◌+◌, ◌-◌, ◌*◌, ◌<◌, ◌≤◌, Bool, true, false, cond, ◌⊎◌, sym, refl, ap, ◌∙◌, subst, inl, inr, ⊎_elim, arith}
-use Rattle.pieces.specs.Sides.{Ends, span, Filled, Inside, Belongs}
-use Rattle.pieces.proofs.Tree.{Fit, root_fits, nested, lie}
+use Rattle.std.proofs.Common.{◌≡◌, ℕ, ◌+◌, ◌*◌, ◌<◌, Bool, true, false, sym, refl, ap, ◌∙◌, inl, inr, ⊎_elim, arith}
+use Rattle.pieces.specs.Sides.{Ends, span, Filled, Belongs}
+use Rattle.pieces.proofs.Tree.{root_fits, nested, lie}
 use Rattle.pieces.proofs.Places.{preorder, ends_between, ends_before}
 use Rattle.pieces.proofs.Geometry.{in_root}
 use Rattle.piece_rates.specs.Lanes.{RunsAlong}

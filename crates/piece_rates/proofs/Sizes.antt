@@ -1,21 +1,19 @@
 -- A sheet that shows best rates holds none too large, and a parent's sheet shows the parent's best rates.
 -- Assumes the laws of the kind.
-use Rattle.std.proofs.Common.{◌≡◌, ℕ, zero, suc, ◌+◌, ◌-◌, ◌*◌, ◌/◌, ◌%◌, ◌<◌, ◌≤◌, Bool, true, false, cond, not, ◌⊎◌, List, [], ◌∷◌, length, get_or, Decides, sym, refl, ap, ◌∙◌, subst, inl, inr, ⊎_elim, mul-le-mul_right, mod-lt, arith}
+use Rattle.std.proofs.Common.{◌≡◌, ℕ, zero, suc, ◌+◌, ◌*◌, ◌/◌, ◌%◌, ◌<◌, ◌≤◌, Bool, true, false, cond, not, ◌⊎◌, List, [], ◌∷◌, length, get_or, sym, refl, ap, ◌∙◌, subst, inl, inr, ⊎_elim, mod-lt, arith}
 use native.Mathlib.Nat.{div-add-mod}
 use Rattle.std.proofs.lemmas.Bool.{cases_Bool, cases_lt, both_ways}
 use Rattle.std.proofs.lemmas.List.{get_or_past}
 use Rattle.rates.specs.Kinds.{Kind, Laws}
 use Rattle.rates.proofs.Choosing.{decides_none}
-use Rattle.trips.specs.Trips.{LaneMap, Standing, NoEarning, Over, Fewer, BestRate}
+use Rattle.trips.specs.Trips.{LaneMap, NoEarning, Over, Fewer, BestRate}
 use Rattle.trips.proofs.Shown.{best_rate_bounded, fewer_lanes_no_better}
 use Rattle.records.specs.declared.Piece.{Piece}
 use Rattle.records.specs.Few.{listed, Among}
 use Rattle.pieces.specs.Sides.{Ends}
 use Rattle.piece_rates.specs.Lanes.{holds_lane, piece_lanes}
-use Rattle.piece_rates.specs.Sheets.{SheetShows}
-use Rattle.piece_rates.specs.Sizes.{largest, Within, PlanLanes}
-use Rattle.piece_rates.specs.Climbing.{parent_entry}
-use Rattle.piece_rates.specs.Parents.{ParentSheet, PartsShown, ParentShows, ShownIsWithin}
+use Rattle.piece_rates.specs.Sizes.{largest, PlanLanes}
+use Rattle.piece_rates.specs.Parents.{ParentShows, ShownIsWithin}
 use Rattle.piece_rates.proofs.Parents.{climbs_to_parent}
 
 pub at_among : (xs : List ℕ) (i : ℕ) → i < length xs → Among (get_or xs i 0) xs

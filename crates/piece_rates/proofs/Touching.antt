@@ -1,14 +1,14 @@
 -- Which terminals touch the parts of a cut piece, and that all terminals and lanes are those of the whole plan.
 -- Assumes the ends of a filled ring in preorder and a division of it.
-use Rattle.std.proofs.Common.{◌≡◌, ℕ, zero, suc, ◌+◌, ◌*◌, ◌<◌, ◌≤◌, true, ◌⊎◌, List, length, get_or, take, sym, refl, ap, ◌∙◌, subst, inl, inr, ⊎_elim, arith}
+use Rattle.std.proofs.Common.{◌≡◌, ℕ, zero, suc, ◌+◌, ◌*◌, ◌<◌, ◌≤◌, ◌⊎◌, List, take, sym, refl, ap, ◌∙◌, subst, inl, inr, ⊎_elim, arith}
 use mathlib.Core.Path.{fun_ext}
 use Rattle.std.proofs.lemmas.Bool.{cases_order, cond_both}
 use Rattle.rates.specs.Kinds.{Kind, Laws}
-use Rattle.trips.specs.Trips.{LaneMap, Standing}
+use Rattle.trips.specs.Trips.{LaneMap}
 use Rattle.records.specs.declared.Piece.{Piece}
 use Rattle.records.specs.declared.Few.{Few}
 use Rattle.records.specs.Few.{listed, Among}
-use Rattle.pieces.specs.Sides.{Ends, span, right_of, Filled, Inside, Child, SideOf, Belongs}
+use Rattle.pieces.specs.Sides.{Ends, span, right_of, Filled, Inside, SideOf, Belongs}
 use Rattle.pieces.specs.Holding.{piece_at, Holds}
 use Rattle.pieces.specs.Division.{Division, CutInTwo}
 use Rattle.pieces.proofs.Tree.{Fit, root_fits, left_fits, right_fits, inside_trans, child_inside, parent}
@@ -17,7 +17,7 @@ use Rattle.pieces.proofs.Geometry.{in_root}
 use Rattle.pieces.proofs.Known.{bounds_cases}
 use Rattle.pieces.proofs.Shown.{holds_shown}
 use Rattle.pieces.proofs.Clauses.{itself}
-use Rattle.piece_rates.specs.Lanes.{RunsAlong, HoldsLane, holds_lane, piece_lanes, LanesShown}
+use Rattle.piece_rates.specs.Lanes.{holds_lane, piece_lanes, LanesShown}
 use Rattle.piece_rates.specs.Climbing.{Outside}
 use Rattle.piece_rates.specs.Triangles.{Corner}
 use Rattle.piece_rates.specs.Touching.{Touches}

@@ -1,14 +1,14 @@
 -- Within a triangle no trip beats the better of the direct lane and the way by the third corner.
 -- Assumes the laws, and that no closed trip earns.
-use Rattle.std.proofs.Common.{◌≡◌, ℕ, ◌<◌, ◌≤◌, Bool, true, false, cond, ◌||◌, eqb, ◌⊎◌, sym, refl, ap, ◌∙◌, subst, inl, inr, ⊎_elim, arith}
+use Rattle.std.proofs.Common.{◌≡◌, ℕ, eqb, sym, refl, ap, ◌∙◌, subst, inl, inr, ⊎_elim, arith}
 use Rattle.std.proofs.lemmas.Bool.{cases_eq, cond-true, cond-false, eq-eqb, ne_eqb}
 use Rattle.std.proofs.lemmas.Bool.Decides.{nat_tests}
 use Rattle.rates.specs.Kinds.{Kind, Laws, NoWorse}
 use Rattle.rates.specs.Many.{better_of}
-use Rattle.rates.specs.Order.{le_refl, le_from, le_trans, le_none, join_left, join_right, join_still, join_none, better_of_first, better_of_second, better_of_either}
-use Rattle.trips.specs.Trips.{LaneMap, Standing, Trip, rate, NoEarning, BestRate}
+use Rattle.rates.specs.Order.{le_from, le_trans, le_none, join_left, join_right, join_still, join_none, better_of_first, better_of_second, better_of_either}
+use Rattle.trips.specs.Trips.{LaneMap, Standing, Trip, rate, NoEarning}
 use Rattle.trips.specs.Trips.Trip.{stay, go}
-use Rattle.trips.proofs.Walks.{Reached, Best, rate_of_best, reached_stay, reached_join, reached_better, closed_reached}
+use Rattle.trips.proofs.Walks.{Reached, rate_of_best, reached_stay, reached_join, reached_better, closed_reached}
 use Rattle.piece_rates.specs.Triangles.{Corner, third_corner, Triangular, triangle_entry, TriangleEntriesAreBest}
 use Rattle.piece_rates.proofs.Sizes.{none_or_not}
 

@@ -1,13 +1,13 @@
 -- The sheets on a way up, rewritten from the lowest on: what is left to rewrite, and why each finds its parts' sheets right.
 -- Assumes a division where one is named.
-use Rattle.std.proofs.Common.{◌≡◌, ℕ, zero, suc, ◌+◌, ◌*◌, ◌<◌, ◌≤◌, Bool, true, false, cond, ◌&&◌, ltb, ◌⊎◌, List, [], ◌∷◌, map, length, take, drop, sym, refl, ap, ◌∙◌, subst, inl, inr, ⊎_elim, arith}
+use Rattle.std.proofs.Common.{◌≡◌, ℕ, zero, suc, ◌+◌, ◌*◌, ◌<◌, ◌≤◌, true, false, cond, ltb, List, [], ◌∷◌, map, length, take, drop, sym, ap, ◌∙◌, subst, inl, inr, ⊎_elim, arith}
 use Rattle.std.proofs.lemmas.Bool.{cases_eq, cond-true, cond-false, cond_both, and_parts, ltb-true}
 use Rattle.std.proofs.lemmas.List.{take-map, drop-map}
 use Rattle.rates.specs.Kinds.{Kind}
 use Rattle.trips.specs.Trips.{LaneMap, Absent, NoneTwice}
 use Rattle.records.specs.declared.Piece.{Piece}
 use Rattle.records.specs.Few.{Among}
-use Rattle.pieces.specs.Sides.{Ends, span}
+use Rattle.pieces.specs.Sides.{Ends}
 use Rattle.pieces.specs.Holding.{piece_at}
 use Rattle.pieces.specs.Division.{Division}
 use Rattle.pieces.specs.Holders.{climbs, way_up}

@@ -6,8 +6,8 @@ use Rattle.trips.specs.Trips.{LaneMap, NoEarning, NoneTwice, changed}
 use Rattle.ring.specs.declared.Side.{Side}
 use Rattle.records.specs.declared.Piece.{Piece}
 use Rattle.records.specs.Few.{Among}
-use Rattle.pieces.specs.Sides.{Ends, ends_of, span, Filled, Belongs}
-use Rattle.pieces.specs.Holding.{piece_at, Holds}
+use Rattle.pieces.specs.Sides.{Ends, ends_of, span, Filled}
+use Rattle.pieces.specs.Holding.{piece_at}
 use Rattle.pieces.specs.Division.{Division, LeavesMarked}
 use Rattle.pieces.specs.Holders.{way_up}
 use Rattle.piece_rates.specs.Lanes.{RunsAlong, HoldsLane, LanesShown}

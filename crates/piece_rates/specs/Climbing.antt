@@ -1,6 +1,6 @@
 -- A parent's sheet from its children's: each entry is one climb.
 -- Assumes the terms of `Sheets`.
-use Rattle.std.specs.Prelude.{◌≡◌, ℕ, zero, suc, ◌+◌, ◌*◌, ◌<◌, ◌≤◌, Bool, true, false, cond, not, ◌&&◌, ◌||◌, ◌⊎◌, List, [], ◌∷◌, length, ◌==◌, slice_index_or}
+use Rattle.std.specs.Prelude.{ℕ, zero, suc, ◌+◌, ◌*◌, ◌<◌, ◌≤◌, Bool, false, cond, not, ◌||◌, ◌⊎◌, List, [], ◌∷◌, ◌==◌, slice_index_or}
 use Rattle.rates.specs.Kinds.{Kind}
 use Rattle.trips.specs.Trips.{LaneMap, NoEarning, BestRate}
 use Rattle.trips.specs.Climbs.{climb_own, climb_other}

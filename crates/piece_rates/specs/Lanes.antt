@@ -1,10 +1,10 @@
 -- The lanes of a plan: which side a lane runs along, which pieces hold it, and the lane map that an area of rates shows.
 -- Assumes nothing; n is the number of terminals, e the ends of the sides, M the members of a kind of rate.
-use Rattle.std.specs.Prelude.{◌≡◌, ℕ, zero, suc, ◌+◌, ◌-◌, ◌*◌, ◌<◌, Bool, true, false, ◌&&◌, ◌||◌, ◌⊎◌, List, ◌==◌, nat_le, slice_index_or}
+use Rattle.std.specs.Prelude.{◌≡◌, ℕ, zero, suc, ◌+◌, ◌-◌, ◌*◌, ◌<◌, Bool, false, ◌&&◌, ◌||◌, ◌⊎◌, List, ◌==◌, nat_le, slice_index_or}
 use Rattle.rates.specs.Kinds.{Kind}
 use Rattle.trips.specs.Trips.{LaneMap, Standing, restricted}
 use Rattle.records.specs.declared.Piece.{Piece}
-use Rattle.pieces.specs.Sides.{Ends, span, right_of, Child, Belongs}
+use Rattle.pieces.specs.Sides.{Ends, span, right_of, Belongs}
 use Rattle.pieces.specs.Holding.{holds, Holds}
 
 -- The lane from u to v runs along the side i.

@@ -2,7 +2,7 @@
 -- Assumes the terms of `Lanes`.
 use Rattle.std.specs.Prelude.{◌≡◌, ℕ, ◌+◌, ◌*◌, ◌<◌, ◌≤◌, List, length, take, drop, slice_index, slice_index_or}
 use Rattle.rates.specs.Kinds.{Kind}
-use Rattle.trips.specs.Trips.{LaneMap, NoEarning, BestRate}
+use Rattle.trips.specs.Trips.{LaneMap, BestRate}
 use Rattle.records.specs.declared.Piece.{Piece}
 use Rattle.records.specs.Few.{listed}
 use Rattle.pieces.specs.Sides.{Ends}

@@ -1,6 +1,6 @@
 -- Best rates within one triangle: direct, or by the third corner.
 -- Assumes nothing; the corners rise.
-use Rattle.std.specs.Prelude.{◌≡◌, ℕ, ◌<◌, Bool, cond, ◌||◌, ◌⊎◌, ◌==◌, ◌≢◌}
+use Rattle.std.specs.Prelude.{◌≡◌, ℕ, cond, ◌||◌, ◌⊎◌, ◌==◌, ◌≢◌}
 use Rattle.rates.specs.Kinds.{Kind}
 use Rattle.rates.specs.Many.{better_of}
 use Rattle.trips.specs.Trips.{LaneMap, Standing, NoEarning, BestRate}

@@ -9,7 +9,7 @@ use Rattle.pieces.specs.Cuts.{triangles, seams, four, rim}
 use Rattle.pieces.specs.Holding.{piece_at, Holds, holds, held, bounds, others}
 use Rattle.pieces.specs.Division.{Uncut, InnerSide, CutInTwo, EdgeTerminals, PieceStands}
 use Rattle.pieces.proofs.Tree.{inside_fits, child_inside, inside_trans}
-use Rattle.pieces.proofs.Tree.{parent as parent-below}
+use Rattle.pieces.proofs.Tree.{parent as parent_below}
 use Rattle.pieces.proofs.Chosen.{among_kept}
 use Rattle.pieces.proofs.Places.{preorder}
 use Rattle.pieces.proofs.Weights.{Sound, top_clear, hole_inside}
@@ -79,7 +79,7 @@ module _ (n : ℕ) (len : ℕ → ℕ) (pre : Preorder n len) (top : ℕ) (hs : 
 
     inner_side : (D : Piece) (level par : ℕ) → Shown D top hs level par → InnerSide len D v
     inner_side D level par w =
-        let r = parent-below n len pre top v s.fit c.inside (λ z. omega (arith, c.below)) in
+        let r = parent_below n len pre top v s.fit c.inside (λ z. omega (arith, c.below)) in
         let b = r.0 in
         let fb = inside_fits n len pre top b s.fit r.1.0 in
         let ci = child_inside n len pre b v fb r.1.1 in

@@ -9,7 +9,7 @@ use Rattle.pieces.specs.Cuts.{triangles, seams, four}
 use Rattle.pieces.specs.Holding.{piece_at, Above}
 use Rattle.pieces.specs.Holding.Above.{parent, higher}
 use Rattle.pieces.proofs.Tree.{Fit, inside_fits, inside_trans, child_inside, parent_inside}
-use Rattle.pieces.proofs.Tree.{parent as parent-below}
+use Rattle.pieces.proofs.Tree.{parent as parent_below}
 use Rattle.pieces.proofs.Weights.{Sound, hole_inside}
 use Rattle.pieces.proofs.Seam.{Cut}
 use Rattle.pieces.proofs.Parts.{inner_list, outer_list, Held, among_inner, inner_among, among_outer, outer_among, seam_among, inner_held, outer_held, inner_sound, outer_sound, sizes_add}
@@ -116,7 +116,7 @@ module _ (n : ℕ) (len : ℕ → ℕ) (pre : Preorder n len) (ps : List Piece) 
             (bounds_cases top (outer_list len v hs) x m);
         hole_sides = λ h m. ⊎_elim
             (λ e.
-            let r = parent-below n len pre top v s.fit c.inside (λ z. omega (arith, c.below)) in
+            let r = parent_below n len pre top v s.fit c.inside (λ z. omega (arith, c.below)) in
             let b = r.0 in
             let fb = inside_fits n len pre top b s.fit r.1.0 in
             let ci = child_inside n len pre b v fb r.1.1 in (

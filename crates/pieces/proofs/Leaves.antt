@@ -10,7 +10,7 @@ use Rattle.pieces.specs.Holding.{piece_at, Holds}
 use Rattle.pieces.specs.Division.{Division, Uncut, LeafMarked, LeavesMarked}
 use Rattle.pieces.specs.Marks.{mark_triangle, mark_all}
 use Rattle.pieces.proofs.Tree.{Fit, root_fits, inside_fits, child_inside, parent_inside}
-use Rattle.pieces.proofs.Tree.{parent as parent-below}
+use Rattle.pieces.proofs.Tree.{parent as parent_below}
 use Rattle.pieces.proofs.Places.{preorder}
 use Rattle.pieces.proofs.Shown.{shown_holds, holds_shown}
 use Rattle.pieces.proofs.Clauses.{itself}
@@ -41,7 +41,7 @@ module _ (n : ℕ) (ss : List Side) (fl : Filled n (ends_of ss)) (ps : List Piec
       ⊎_elim
       (λ u.
       let ne : 0 ≡ i → ⊥ = λ s. omega (arith, ap (lengths ss) s) in
-      let p = parent-below n (lengths ss) pre 0 i (root_fits n (lengths ss) pre) in0 ne in
+      let p = parent_below n (lengths ss) pre 0 i (root_fits n (lengths ss) pre) in0 ne in
       (p.0, (inr (omega arith, p.1.1), p.1.1.base, p.1.0)))
       (λ u. (i, (inl (u, refl), u, in0)))
       (cases_lt (lengths ss i) 2)

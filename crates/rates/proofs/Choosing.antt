@@ -1,7 +1,7 @@
 -- Tests on rates, and the steps of a loop that joins or compares a list of them.
 -- Assumes the laws.
 use Rattle.std.proofs.Common.{◌≡◌, ℕ, ◌+◌, ◌<◌, ◌≤◌, Bool, true, false, not, ◌||◌, List, [], ◌∷◌, ◌++◌, map, length, get_or, take, Decides, sym, refl, ap, ◌∙◌, subst, inl, inr, ⊎_elim, arith, below_more}
-use Rattle.std.specs.List.{ContainsAt as Has}
+use Rattle.std.specs.List.{ContainsAt}
 use Rattle.std.proofs.lemmas.List.{map_more, get_or-map}
 use Rattle.std.proofs.ByRecursion.{All-push, All-weaker, has_push, has_append_left}
 use Rattle.std.proofs.lemmas.Bool.{not-true, not_from_false, or_parts}
@@ -53,9 +53,9 @@ module _ {M : Type 0} (K : Kind M) (X : Laws K) where
   pub best_push : (list : List M) (b a : M) → BestOf K list b → BestOf K (list ++ a ∷ []) (better_of K b a)
   best_push list b a h = record {
     among = inl (⊎_elim
-        (λ e. ⊎_elim (λ m. subst (Has (list ++ a ∷ [])) (sym e) (has_append_left list (a ∷ []) b m))
-        (λ n. subst (Has (list ++ a ∷ [])) (sym (a_is n)) (has_push list a)) h.among)
-        (λ e. subst (Has (list ++ a ∷ [])) (sym e) (has_push list a))
+        (λ e. ⊎_elim (λ m. subst (ContainsAt (list ++ a ∷ [])) (sym e) (has_append_left list (a ∷ []) b m))
+        (λ n. subst (ContainsAt (list ++ a ∷ [])) (sym (a_is n)) (has_push list a)) h.among)
+        (λ e. subst (ContainsAt (list ++ a ∷ [])) (sym e) (has_push list a))
         (better_of_either K X b a));
     none_better = All-push (NoWorse K (better_of K b a)) list a
         (All-weaker (NoWorse K b) (NoWorse K (better_of K b a)) (λ x. le_trans K X (better_of_first K X b a)) list h.none_better)

@@ -1,7 +1,7 @@
 -- Several rates: the better of two, all of a list joined in order, and the best of a list.
 -- Assumes nothing; that the best is one member asks for the laws.
 use Rattle.std.specs.Prelude.{◌≡◌, ℕ, ◌+◌, ◌<◌, true, cond, ◌⊎◌, List, [], ◌∷◌, slice_index_or}
-use Rattle.std.specs.List.{ContainsAt as Has, AllByRecursion as All}
+use Rattle.std.specs.List.{ContainsAt, AllByRecursion}
 use Rattle.rates.specs.Kinds.{Kind, NoWorse}
 
 module _ {M : Type 0} (K : Kind M) where
@@ -21,8 +21,8 @@ module _ {M : Type 0} (K : Kind M) where
 
   -- b is the best of a list: one of its members, or none where it is empty, and no member is better
   pub record BestOf (list : List M) (b : M) : Type 0 where
-    pub among : Has list b ⊎ ((list ≡ []) × (b ≡ K.none))
-    pub none_better : All (NoWorse K b) list
+    pub among : ContainsAt list b ⊎ ((list ≡ []) × (b ≡ K.none))
+    pub none_better : AllByRecursion (NoWorse K b) list
 
   -- of the first n places of a list, k is the first at which their best stands
   pub record FirstBest (list : List M) (n k : ℕ) : Type 0 where

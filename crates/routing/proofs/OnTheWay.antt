@@ -1,7 +1,7 @@
 -- Passing the next of the stops to come leaves a trip on its way, and at its end it is a best trip.
 -- Assumes the laws, and the lanes of a plan where no closed trip earns.
 use Rattle.std.proofs.Common.{◌≡◌, ℕ, zero, suc, ◌+◌, ◌<◌, ◌≤◌, min, ◌⊎◌, List, [], ◌∷◌, ◌++◌, length, take, sym, refl, ap, ◌∙◌, subst, inl, inr, ⊎_elim, arith, length-append}
-use Rattle.std.specs.List.{AllByRecursion as All}
+use Rattle.std.specs.List.{AllByRecursion}
 use Rattle.std.proofs.lemmas.List.{length-take-le, take-append-le}
 use Rattle.rates.specs.Kinds.{Kind, Laws, NoWorse}
 use Rattle.rates.specs.Order.{le_from, le_trans, same, join_left, join_right, join_still}
@@ -21,7 +21,7 @@ passing_length stops w = length-append (take (place stops w) stops) (w ∷ []) �
 
 module _ {M : Type 0} (K : Kind M) (X : Laws K) (n : ℕ) (m : LaneMap M) (over : Over K n m) (ne : NoEarning K m) where
   -- the stops of linked lanes are terminals
-  linked_below : (u : ℕ) (list : List ℕ) → u < n → Linked K m u list → All (λ x. x < n) (u ∷ list)
+  linked_below : (u : ℕ) (list : List ℕ) → u < n → Linked K m u list → AllByRecursion (λ x. x < n) (u ∷ list)
   linked_below u [] l h = (l, tt)
   linked_below u (w ∷ list) l h = (l, linked_below w list (over u w h.0).1 h.1)
 

@@ -1,7 +1,7 @@
 -- One turn: a part of a cut piece gives way to the parts it is split into, a part of a triangle to its stops.
 -- Assumes the laws and a plan in order.
 use Rattle.std.proofs.Common.{◌≡◌, ℕ, zero, suc, ◌+◌, ◌*◌, ◌<◌, ◌≤◌, Bool, true, false, cond, eqb, ◌⊎◌, List, [], ◌∷◌, ◌++◌, length, sym, refl, ap, ◌∙◌, subst, inl, inr, ⊎_elim, arith, length-append}
-use Rattle.std.specs.List.{AllByRecursion as All}
+use Rattle.std.specs.List.{AllByRecursion}
 use Rattle.std.proofs.ByRecursion.{All-append, All-weaker}
 use Rattle.std.proofs.lemmas.List.{append_assoc}
 use Rattle.std.proofs.lemmas.Bool.{cases_Bool, cond-true, cond-false}
@@ -47,7 +47,7 @@ module _ {M : Type 0} (K : Kind M) (n : ℕ) (e : Ends) (ps : List Piece) (area 
   none_first list k done = refl
 
   -- parts of children, one level down, keep few behind each
-  few_split : (p : ℕ) (xs parts : List Part) → length xs + length parts ≤ 2 * (piece_at ps p).level + 3 → All (ChildPart K n e ps best p) xs → FewBehind ps parts → FewBehind ps (xs ++ parts)
+  few_split : (p : ℕ) (xs parts : List Part) → length xs + length parts ≤ 2 * (piece_at ps p).level + 3 → AllByRecursion (ChildPart K n e ps best p) xs → FewBehind ps parts → FewBehind ps (xs ++ parts)
   few_split p [] parts l h f = f
   few_split p (x ∷ xs) parts l h f =
       (omega (arith, length-append xs parts, h.0.level), few_split p xs parts (omega arith) h.1 f)

@@ -1,7 +1,7 @@
 -- A trip while it is unfolded: what is written of it, and what still waits.
 -- Assumes the terms of `unfolding` and `stops`; n is the number of terminals, m the lanes of the plan.
 use Rattle.std.specs.Prelude.{◌≡◌, ℕ, ◌+◌, ◌*◌, ◌<◌, ◌≤◌, List, [], ◌∷◌, ◌++◌, length, take, ◌≢◌}
-use Rattle.std.specs.List.{AllByRecursion as All}
+use Rattle.std.specs.List.{AllByRecursion}
 use Rattle.rates.specs.Kinds.{Kind, NoWorse}
 use Rattle.trips.specs.Trips.{LaneMap, Trip, rate, stops, NoneTwice, BestRate}
 use Rattle.trips.specs.Theorems.{final, Linked, rate_along}
@@ -40,7 +40,7 @@ module _ {M : Type 0} (K : Kind M) where
     pub turns : ℕ
     pub unfolds : Unfolds K n e ps area best parts to_come turns
     pub enough : turns ≤ left
-    pub parts_stand : All (PartStands K n e ps best) parts
+    pub parts_stand : AllByRecursion (PartStands K n e ps best) parts
     pub few_behind : FewBehind ps parts
     pub on_the_way : OnTheWay n m s t r to_come places count
 

@@ -1,18 +1,18 @@
 -- The climb by places is the climb by terminals, and rows of it are the parent's sheet.
 -- Assumes that the parts say where the terminals stand.
-use Rattle.std.proofs.Common.{◌≡◌, ℕ, ◌+◌, ◌-◌, ◌*◌, ◌<◌, ◌≤◌, min, Bool, true, false, cond, not, ltb, ◌⊎◌, List, ◌++◌, map, length, get_or, take, drop, sym, refl, ap, ◌∙◌, subst, inl, inr, ⊎_elim, arith, length-take}
+use Rattle.std.proofs.Common.{◌≡◌, ℕ, ◌+◌, ◌-◌, ◌*◌, ◌<◌, ◌≤◌, Bool, true, false, cond, ltb, List, ◌++◌, map, length, get_or, take, sym, ap, ◌∙◌, subst, ⊎_elim, arith, length-take}
 use borrow.Rule.Slice.PartMut.{put_mid, post_of}
 use Rattle.std.proofs.lemmas.Bool.{cond-true, cond-false, lt-ltb, le-ltb, cases_lt, cases_order}
 use Rattle.std.proofs.lemmas.List.{get_or_append_left, get_or-append_right, length-map, map-append, take-map, get_or-take}
-use Rattle.rates.specs.Kinds.{Kind, Laws}
+use Rattle.rates.specs.Kinds.{Kind}
 use Rattle.rates.specs.Many.{better_of}
 use Rattle.trips.specs.Climbs.{climb_own, climb_other}
 use Rattle.records.specs.declared.Piece.{Piece}
 use Rattle.records.specs.Few.{listed}
-use Rattle.piece_rates.specs.Climbing.{place, among, table_of, child_edges, child_table, seam_ends, climbed, parent_entry}
+use Rattle.piece_rates.specs.Climbing.{place, among, table_of, child_table, seam_ends, climbed, parent_entry}
 use Rattle.piece_rates.specs.Parents.{ParentSheet}
 use Rattle.piece_rates.proofs.Places.{among_place}
-use Rattle.sheets.specs.Places.{PartShows, cell, to_seam_at, by_seam_at, climb_at, climbed_at, entry_at, Row, ParentRow}
+use Rattle.sheets.specs.Places.{PartShows, cell, to_seam_at, by_seam_at, climbed_at, entry_at}
 use Rattle.sheets.specs.declared.parent.Part.{Part}
 
 module _ {M : Type 0} (K : Kind M) where

@@ -1,13 +1,13 @@
 -- A leaf's sheet place by place, from the triangle as it was read.
 -- Assumes the laws.
-use Rattle.std.proofs.Common.{◌≡◌, ℕ, ◌+◌, ◌*◌, ◌/◌, ◌%◌, ◌<◌, ◌≤◌, Bool, true, false, cond, ◌&&◌, eqb, ltb, ◌⊎◌, List, length, get_or, sym, refl, ap, ◌∙◌, subst, inl, inr, ⊎_elim, arith}
+use Rattle.std.proofs.Common.{◌≡◌, ℕ, ◌+◌, ◌*◌, ◌/◌, ◌%◌, ◌<◌, ◌≤◌, cond, ◌&&◌, eqb, ltb, List, length, get_or, sym, ◌∙◌, subst, arith}
 use Rattle.std.proofs.lemmas.Bool.{cond-true, cond-false, and_from, and_left, and_right, lt-ltb, le-ltb}
-use Rattle.rates.specs.Kinds.{Kind, Laws}
+use Rattle.rates.specs.Kinds.{Kind}
 use Rattle.trips.specs.Trips.{LaneMap}
 use Rattle.records.specs.declared.Piece.{Piece}
 use Rattle.records.specs.Few.{listed}
 use Rattle.pieces.specs.Sides.{Ends, span, right_of}
-use Rattle.piece_rates.specs.Leaves.{rate_if, corner_lanes, leaf_lanes, LanesWithin, LeafSheet}
+use Rattle.piece_rates.specs.Leaves.{rate_if, corner_lanes, leaf_lanes, LeafSheet}
 use Rattle.piece_rates.specs.Triangles.{triangle_entry}
 use Rattle.sheets.specs.Triangles.{TriangleRead, leaf_place}
 

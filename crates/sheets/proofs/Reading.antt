@@ -1,10 +1,10 @@
 -- Places of a sheet, and the sizes that keep each join exact.
 -- Assumes the laws.
-use Rattle.std.proofs.Common.{◌≡◌, ℕ, ◌+◌, ◌*◌, ◌<◌, ◌≤◌, Bool, true, false, cond, ltb, ◌⊎◌, List, map, length, get_or, set, sym, refl, ap, ◌∙◌, subst, inl, inr, ⊎_elim, arith}
+use Rattle.std.proofs.Common.{◌≡◌, ℕ, ◌+◌, ◌*◌, ◌<◌, ◌≤◌, cond, ltb, List, map, length, get_or, set, sym, ap, ◌∙◌, ⊎_elim, arith}
 use Rattle.std.proofs.lemmas.Bool.{cond-true, cond-false, lt-ltb, le-ltb}
 use Rattle.std.proofs.lemmas.List.{get_or-map, get_or_past, length-map, map-set}
 use Rattle.std.proofs.lemmas.List.Edits.{fill_by_more}
-use Rattle.rates.specs.Kinds.{Kind, Laws, exact_size}
+use Rattle.rates.specs.Kinds.{Kind, Laws}
 use Rattle.rates.specs.Many.{better_of}
 use Rattle.rates.specs.Order.{better_of_either}
 use Rattle.piece_rates.specs.Sizes.{largest, Within}

@@ -1,6 +1,6 @@
 -- A climb by places of sheets in place of terminals.
 -- Assumes nothing: a place past a sheet's end reads none.
-use Rattle.std.specs.Prelude.{◌≡◌, ℕ, ◌+◌, ◌*◌, ◌<◌, Bool, cond, ◌&&◌, List, length, nat_lt, slice_index, slice_index_or}
+use Rattle.std.specs.Prelude.{◌≡◌, ℕ, ◌+◌, ◌*◌, ◌<◌, cond, List, length, nat_lt, slice_index, slice_index_or}
 use Rattle.rates.specs.Kinds.{Kind}
 use Rattle.rates.specs.Many.{better_of}
 use Rattle.piece_rates.specs.Climbing.{place}

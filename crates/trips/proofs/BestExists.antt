@@ -2,7 +2,7 @@
 -- a trip without a terminal twice has it, and its size is bounded.
 -- Assumes the laws of the kind.
 use Rattle.std.proofs.Common.{◌≡◌, ℕ, zero, suc, ◌-◌, ◌*◌, ◌<◌, ◌≤◌, cond, eqb, length, sym, refl, ap, ◌∙◌, subst, inl, inr, ⊎_elim, mul-le-mul_right, add-mul, one-mul, arith}
-use Rattle.std.specs.List.{AllByRecursion as All}
+use Rattle.std.specs.List.{AllByRecursion}
 use Rattle.std.proofs.lemmas.Bool.{eqb-true, eq-eqb, cond_both, cond-true, cases_order}
 use Rattle.rates.specs.Kinds.{Kind, Laws, NoWorse}
 use Rattle.rates.specs.Many.{better_of}
@@ -14,7 +14,7 @@ use Rattle.trips.proofs.LoopRemoval.{shorten}
 use Rattle.trips.proofs.Pigeonhole.{pigeonhole}
 
 module _ {M : Type 0} (K : Kind M) (X : Laws K) where
-  stops_below : {m : LaneMap M} (n : ℕ) → Over K n m → {u v : ℕ} → u < n → (t : Trip K m u v) → All (λ x. x < n) (stops K t)
+  stops_below : {m : LaneMap M} (n : ℕ) → Over K n m → {u v : ℕ} → u < n → (t : Trip K m u v) → AllByRecursion (λ x. x < n) (stops K t)
   unfolding stops
   stops_below n o l stay = (l, tt)
   stops_below n o {u} l (go w s t) = (l, stops_below n o (o u w s).1 t)

@@ -1,7 +1,7 @@
 -- A list of numbers below n, none of them twice, has at most n places.
 -- Assumes nothing.
 use Rattle.std.proofs.Common.{◌≡◌, ℕ, zero, suc, ◌<◌, ◌≤◌, cond, eqb, List, [], ◌∷◌, length, sym, refl, ap, ◌∙◌, subst, ⊎_elim, arith}
-use Rattle.std.specs.List.{AllByRecursion as All}
+use Rattle.std.specs.List.{AllByRecursion}
 use Rattle.std.proofs.lemmas.Bool.{eqb-true, eqb-false, ne_eqb, cond_both, cond-false, cases_order}
 use Rattle.trips.specs.Trips.{Absent, NoneTwice}
 
@@ -24,10 +24,10 @@ none_twice_without k (x ∷ xs) (a, h) =
 below_or_same : (x k : ℕ) → (x ≡ k → ⊥) → x < suc k → x < k
 below_or_same x k n l = ⊎_elim (λ e. absurd (n e)) (⊎_elim (λ h. h) (λ h. absurd (omega arith))) (cases_order x k)
 
-below_without : (k : ℕ) (xs : List ℕ) → All (λ x. x < suc k) xs → All (λ x. x < k) (without k xs)
+below_without : (k : ℕ) (xs : List ℕ) → AllByRecursion (λ x. x < suc k) xs → AllByRecursion (λ x. x < k) (without k xs)
 below_without k [] h = tt
 below_without k (x ∷ xs) (l, h) =
-    cond_both (eqb x k) (without k xs) (x ∷ without k xs) (All (λ y. y < k)) (λ e. below_without k xs h)
+    cond_both (eqb x k) (without k xs) (x ∷ without k xs) (AllByRecursion (λ y. y < k)) (λ e. below_without k xs h)
     (λ e. (below_or_same x k (eqb-false x k e) l, below_without k xs h))
 
 -- a number that a list lacks is not taken out of it
@@ -44,7 +44,7 @@ length_without k (x ∷ xs) (a, h) =
     (λ e. omega (arith, length_lacking k xs (subst (λ y. Absent y xs) (eqb-true x k e) a)))
     (λ e. omega (arith, length_without k xs h))
 
-pub pigeonhole : (n : ℕ) (xs : List ℕ) → NoneTwice xs → All (λ x. x < n) xs → length xs ≤ n
+pub pigeonhole : (n : ℕ) (xs : List ℕ) → NoneTwice xs → AllByRecursion (λ x. x < n) xs → length xs ≤ n
 pigeonhole zero [] h b = omega arith
 pigeonhole zero (x ∷ xs) h (l, b) = absurd (omega arith)
 pigeonhole (suc k) xs h b =

@@ -1,7 +1,7 @@
 -- Ten worked examples of best rates, closed trips that earn, and links that cross, as one table.
 -- Assumes nothing.
 use Rattle.std.specs.Prelude.{ℕ, List, [], ◌∷◌, ℤ, pos, negsuc}
-use Rattle.std.specs.List.{AllByRecursion as All}
+use Rattle.std.specs.List.{AllByRecursion}
 use Rattle.rates.specs.Kinds.{Kind}
 use Rattle.rates.specs.Amounts.{Amount, cents_kind}
 use Rattle.rates.specs.Amounts.Amount.{no_amount, whole}
@@ -55,7 +55,7 @@ pub data Example : Type 0 where
   apart : Ends → Ends → Example
 
 abbrev pub Shown : Example → Type 0
-Shown (says k n lanes claims) = All (Holds k (network k lanes)) claims
+Shown (says k n lanes claims) = AllByRecursion (Holds k (network k lanes)) claims
 Shown (crossing l m) = Cross l m
 Shown (apart l m) = Cross l m → ⊥
 
@@ -102,4 +102,4 @@ examples =
 
 -- every example of the table is shown
 abbrev pub ExamplesShown : Type 0
-ExamplesShown = All Shown examples
+ExamplesShown = AllByRecursion Shown examples

@@ -1,7 +1,7 @@
 -- Every part unfolds: the stops that come out, the parts that are met on the way, and that no two of them at one piece share an end.
 -- Assumes the laws of the kind and a plan in order with the best rates within its pieces.
 use Rattle.std.proofs.Common.{◌≡◌, ℕ, zero, suc, ◌+◌, ◌*◌, ◌<◌, ◌≤◌, Bool, true, false, cond, not, ◌⊎◌, List, [], ◌∷◌, ◌++◌, map, length, sym, refl, ap, ◌∙◌, subst, inl, inr, ⊎_elim, append_assoc, arith, length-append}
-use Rattle.std.specs.List.{AllByRecursion as All}
+use Rattle.std.specs.List.{AllByRecursion}
 use Rattle.std.proofs.ByRecursion.{All-append, All-weaker}
 use Rattle.rates.specs.Kinds.{Kind, Laws}
 use Rattle.rates.specs.Many.{joined_all}
@@ -38,16 +38,16 @@ among_right : (w u : ℕ) (xs ys : List ℕ) → Among w (final u xs ∷ ys) →
 among_right w u [] ys h = h
 among_right w u (x ∷ xs) ys h = inr (among_right w x xs ys h)
 
-all_pairs : (P Q : Part → Type 0) (R : Part → Part → Type 0) → ((r s : Part) → P r → Q s → R r s) → (xs ys : List Part) → All P xs → All Q ys → All (λ r. All (R r) ys) xs
+all_pairs : (P Q : Part → Type 0) (R : Part → Part → Type 0) → ((r s : Part) → P r → Q s → R r s) → (xs ys : List Part) → AllByRecursion P xs → AllByRecursion Q ys → AllByRecursion (λ r. AllByRecursion (R r) ys) xs
 all_pairs P Q R f [] ys p q = tt
 all_pairs P Q R f (x ∷ xs) ys (p, ps) q = (All-weaker Q (R x) (λ s. f x s p) ys q, all_pairs P Q R f xs ys ps q)
 
-all_none : (R : Part → Part → Type 0) (xs : List Part) → All (λ r. All (R r) []) xs
+all_none : (R : Part → Part → Type 0) (xs : List Part) → AllByRecursion (λ r. AllByRecursion (R r) []) xs
 all_none R [] = tt
 all_none R (x ∷ xs) = (tt, all_none R xs)
 
-all_joined : (R : Part → Part → Type 0) (xs ys zs : List Part) → All (λ r. All (R r) ys) xs → All (λ r. All (R r) zs) xs → All (λ r. All (R r) (ys ++ zs)) xs
-all_joined R xs ys zs p q = All-weaker (λ r. All (R r) ys × All (R r) zs) (λ r. All (R r) (ys ++ zs)) (λ r h. All-append (R r) ys zs h.0 h.1) xs (all_both (λ r. All (R r) ys) (λ r. All (R r) zs) xs p q)
+all_joined : (R : Part → Part → Type 0) (xs ys zs : List Part) → AllByRecursion (λ r. AllByRecursion (R r) ys) xs → AllByRecursion (λ r. AllByRecursion (R r) zs) xs → AllByRecursion (λ r. AllByRecursion (R r) (ys ++ zs)) xs
+all_joined R xs ys zs p q = All-weaker (λ r. AllByRecursion (R r) ys × AllByRecursion (R r) zs) (λ r. AllByRecursion (R r) (ys ++ zs)) (λ r h. All-append (R r) ys zs h.0 h.1) xs (all_both (λ r. AllByRecursion (R r) ys) (λ r. AllByRecursion (R r) zs) xs p q)
 
 module _ {M : Type 0} (K : Kind M) (X : Laws K)
     (n : ℕ) (m : LaneMap M) (sides : List Side) (ps : List Piece) (area sheets : List M) (best : ℕ → ℕ → ℕ → M)
@@ -81,11 +81,11 @@ module _ {M : Type 0} (K : Kind M) (X : Laws K)
     pub met : List Part
     pub along : TripAlong K (piece_lanes K n (ends_of sides) (piece_at ps q.piece) m) q.from q.to (part_rate K best q) stops
     pub unfolds : (parts : List Part) (rest : List ℕ) (k : ℕ) → Unfolds K n (ends_of sides) ps area best parts rest k → Unfolds K n (ends_of sides) ps area best (q ∷ parts) (stops ++ rest) (length met + k)
-    pub in_range : All (λ r. r.piece + 5 < 2 * n) met
-    pub numbered : All (λ r. (q.piece ≤ r.piece) × (r.piece + 1 < q.piece + 2 * held n (span (ends_of sides)) (piece_at ps q.piece))) met
-    pub on_trip : All (λ r. Among r.from (q.from ∷ stops) × Among r.to (q.from ∷ stops)) met
+    pub in_range : AllByRecursion (λ r. r.piece + 5 < 2 * n) met
+    pub numbered : AllByRecursion (λ r. (q.piece ≤ r.piece) × (r.piece + 1 < q.piece + 2 * held n (span (ends_of sides)) (piece_at ps q.piece))) met
+    pub on_trip : AllByRecursion (λ r. Among r.from (q.from ∷ stops) × Among r.to (q.from ∷ stops)) met
     pub apart : EndsApart met
-    pub known : (s t : ℕ) → EndsAmong (λ p. s ∷ t ∷ listed (piece_at ps p).edges) q → All (EndsAmong (λ p. s ∷ t ∷ listed (piece_at ps p).edges)) met
+    pub known : (s t : ℕ) → EndsAmong (λ p. s ∷ t ∷ listed (piece_at ps p).edges) q → AllByRecursion (EndsAmong (λ p. s ∷ t ∷ listed (piece_at ps p).edges)) met
 
   ends_on_trip : (q : Part) (list : List ℕ) → final q.from list ≡ q.to → OnTrip q.from list q
   ends_on_trip q list z = (inl refl, subst (λ w. Among w (q.from ∷ list)) z (final_among q.from list))
@@ -108,15 +108,15 @@ module _ {M : Type 0} (K : Kind M) (X : Laws K)
         known = λ s t k. (k, tt);
       }
 
-  abbrev all_stops : (parts : List Part) → All Unfolded parts → List ℕ
+  abbrev all_stops : (parts : List Part) → AllByRecursion Unfolded parts → List ℕ
   all_stops [] us = []
   all_stops (q ∷ parts) (u, us) = u.stops ++ all_stops parts us
 
-  abbrev all_met : (parts : List Part) → All Unfolded parts → List Part
+  abbrev all_met : (parts : List Part) → AllByRecursion Unfolded parts → List Part
   all_met [] us = []
   all_met (q ∷ parts) (u, us) = u.met ++ all_met parts us
 
-  all_unfold : (parts : List Part) (us : All Unfolded parts) (more : List Part) (rest : List ℕ) (k : ℕ) → Unfolds K n e ps area best more rest k
+  all_unfold : (parts : List Part) (us : AllByRecursion Unfolded parts) (more : List Part) (rest : List ℕ) (k : ℕ) → Unfolds K n e ps area best more rest k
       → Unfolds K n e ps area best (parts ++ more) (all_stops parts us ++ rest) (length (all_met parts us) + k)
   all_unfold [] us more rest k h =
       let z : k ≡ length (all_met [] us) + k = omega arith in
@@ -128,19 +128,19 @@ module _ {M : Type 0} (K : Kind M) (X : Laws K)
       subst (λ list. Unfolds K n e ps area best (q ∷ (parts ++ more)) list (length (u.met ++ all_met parts us) + k)) (sym (append_assoc u.stops (all_stops parts us) rest))
       (subst (Unfolds K n e ps area best (q ∷ (parts ++ more)) (u.stops ++ (all_stops parts us ++ rest))) z all)
 
-  all_in_range : (parts : List Part) (us : All Unfolded parts) → All (λ r. r.piece + 5 < 2 * n) (all_met parts us)
+  all_in_range : (parts : List Part) (us : AllByRecursion Unfolded parts) → AllByRecursion (λ r. r.piece + 5 < 2 * n) (all_met parts us)
   all_in_range [] us = tt
   all_in_range (q ∷ parts) (u, us) = All-append (λ r. r.piece + 5 < 2 * n) u.met (all_met parts us) u.in_range (all_in_range parts us)
 
-  all_known : (s t : ℕ) (parts : List Part) (us : All Unfolded parts) → All (EndsAmong (may_end s t)) parts → All (EndsAmong (may_end s t)) (all_met parts us)
+  all_known : (s t : ℕ) (parts : List Part) (us : AllByRecursion Unfolded parts) → AllByRecursion (EndsAmong (may_end s t)) parts → AllByRecursion (EndsAmong (may_end s t)) (all_met parts us)
   all_known s t [] us k = tt
   all_known s t (q ∷ parts) (u, us) (k, ks) = All-append (EndsAmong (may_end s t)) u.met (all_met parts us) (u.known s t k) (all_known s t parts us ks)
 
   -- along a chain of parts, the ends of all parts that are met are stops
-  all_on_trip : (u v : ℕ) (parts : List Part) (us : All Unfolded parts) → Chain u v parts → All (OnTrip u (all_stops parts us)) (all_met parts us)
+  all_on_trip : (u v : ℕ) (parts : List Part) (us : AllByRecursion Unfolded parts) → Chain u v parts → AllByRecursion (OnTrip u (all_stops parts us)) (all_met parts us)
   all_on_trip u v [] us h = tt
   all_on_trip u v (q ∷ parts) (w, us) (z, h) =
-      subst (λ a. All (OnTrip a (w.stops ++ all_stops parts us)) (w.met ++ all_met parts us)) z
+      subst (λ a. AllByRecursion (OnTrip a (w.stops ++ all_stops parts us)) (w.met ++ all_met parts us)) z
       (All-append (OnTrip q.from (w.stops ++ all_stops parts us)) w.met (all_met parts us)
       (All-weaker (OnTrip q.from w.stops) (OnTrip q.from (w.stops ++ all_stops parts us))
       (λ r k. (among_left r.from (q.from ∷ w.stops) (all_stops parts us) k.0, among_left r.to (q.from ∷ w.stops) (all_stops parts us) k.1))
@@ -157,7 +157,7 @@ module _ {M : Type 0} (K : Kind M) (X : Laws K)
     P = piece_at ps p
 
     -- trips over the lanes of the children, one after the other
-    all_along : (u v : ℕ) (parts : List Part) (us : All Unfolded parts) → Chain u v parts → All (ChildPart K n e ps best p) parts
+    all_along : (u v : ℕ) (parts : List Part) (us : AllByRecursion Unfolded parts) → Chain u v parts → AllByRecursion (ChildPart K n e ps best p) parts
         → TripAlong K (lanes_of p) u v (joined_all K (map (part_rate K best) parts)) (all_stops parts us)
     all_along u v [] us h k = record { linked = tt; ends_there = h; rate_is = refl }
     all_along u v (q ∷ parts) (w, us) (z, h) (k, ks) =
@@ -189,7 +189,7 @@ module _ {M : Type 0} (K : Kind M) (X : Laws K)
     children_apart false true d i j h k z = omega (arith, c.first_number, c.second_number, h.0, k.1)
     children_apart false false d i j h k z = d refl
 
-    all_below : (parts : List Part) (us : All Unfolded parts) → All (ChildPart K n e ps best p) parts → All (λ s. (p < s.piece) × (s.piece + 1 < p + size p)) (all_met parts us)
+    all_below : (parts : List Part) (us : AllByRecursion Unfolded parts) → AllByRecursion (ChildPart K n e ps best p) parts → AllByRecursion (λ s. (p < s.piece) × (s.piece + 1 < p + size p)) (all_met parts us)
     all_below [] us k = tt
     all_below (q ∷ parts) (u, us) (k, ks) =
         All-append (λ s. (p < s.piece) × (s.piece + 1 < p + size p)) u.met (all_met parts us)
@@ -199,7 +199,7 @@ module _ {M : Type 0} (K : Kind M) (X : Laws K)
 
     -- Parts met below two parts of the split: they are at different pieces, or their ends are stops of trips that share no terminal.
     clear_pair : (q q' : Part) → ChildPart K n e ps best p q → ChildPart K n e ps best p q' → Separate K X n m sides ps area sheets best rated q q'
-        → (u : Unfolded q) (u' : Unfolded q') → All (λ s. All (Clear s) u'.met) u.met
+        → (u : Unfolded q) (u' : Unfolded q') → AllByRecursion (λ s. AllByRecursion (Clear s) u'.met) u.met
     clear_pair q q' k k' (inl d) u u' =
         all_pairs (λ s. Below q.piece s.piece) (λ s. Below q'.piece s.piece) Clear
         (λ s s' h h' z. absurd (children_apart k.which.0 k'.which.0 (λ w. d (k.which.1 ∙ w ∙ sym k'.which.1)) s.piece s'.piece
@@ -218,18 +218,18 @@ module _ {M : Type 0} (K : Kind M) (X : Laws K)
         })
         u.met u'.met u.on_trip u'.on_trip
 
-    clear_all : (q : Part) → ChildPart K n e ps best p q → (u : Unfolded q) (parts : List Part) (us : All Unfolded parts) → All (ChildPart K n e ps best p) parts
-        → All (Separate K X n m sides ps area sheets best rated q) parts → All (λ s. All (Clear s) (all_met parts us)) u.met
+    clear_all : (q : Part) → ChildPart K n e ps best p q → (u : Unfolded q) (parts : List Part) (us : AllByRecursion Unfolded parts) → AllByRecursion (ChildPart K n e ps best p) parts
+        → AllByRecursion (Separate K X n m sides ps area sheets best rated q) parts → AllByRecursion (λ s. AllByRecursion (Clear s) (all_met parts us)) u.met
     clear_all q k u [] us ks h = all_none Clear u.met
     clear_all q k u (q' ∷ parts) (u', us) (k', ks) (h, hs) =
         all_joined Clear u.met u'.met (all_met parts us) (clear_pair q q' k k' h u u') (clear_all q k u parts us ks hs)
 
-    all_apart : (parts : List Part) (us : All Unfolded parts) → All (ChildPart K n e ps best p) parts → Pairwise K X n m sides ps area sheets best rated parts → EndsApart (all_met parts us)
+    all_apart : (parts : List Part) (us : AllByRecursion Unfolded parts) → AllByRecursion (ChildPart K n e ps best p) parts → Pairwise K X n m sides ps area sheets best rated parts → EndsApart (all_met parts us)
     all_apart [] us k h = tt
     all_apart (q ∷ parts) (u, us) (k, ks) (h, hs) =
         apart_append u.met (all_met parts us) u.apart (all_apart parts us ks hs) (clear_all q k u parts us ks h)
 
-  unfolded_cut : (q : Part) → PartStands K n e ps best q → Cut n e ps q.piece → All Unfolded (split K best e ps q) → Unfolded q
+  unfolded_cut : (q : Part) → PartStands K n e ps best q → Cut n e ps q.piece → AllByRecursion Unfolded (split K best e ps q) → Unfolded q
   unfolded_cut q h c us =
       let p = q.piece in
       let r = h.in_range in
@@ -257,7 +257,7 @@ module _ {M : Type 0} (K : Kind M) (X : Laws K)
       }
 
   unfolded_all : (f : ℕ) → ((q : Part) → PartStands K n e ps best q → 41 ≤ (piece_at ps q.piece).level + f → Unfolded q)
-      → (p : ℕ) → 41 ≤ (piece_at ps p).level + suc f → (parts : List Part) → All (ChildPart K n e ps best p) parts → All Unfolded parts
+      → (p : ℕ) → 41 ≤ (piece_at ps p).level + suc f → (parts : List Part) → AllByRecursion (ChildPart K n e ps best p) parts → AllByRecursion Unfolded parts
   unfolded_all f grow p l [] k = tt
   unfolded_all f grow p l (q ∷ parts) (k, ks) = (grow q k.stands (omega (arith, k.level)), unfolded_all f grow p l parts ks)
 

@@ -1,7 +1,7 @@
 -- What the parts of one split have to do with one another: those of the same child share no terminal.
 -- Assumes the laws of the kind and a plan in order with the best rates within its pieces.
 use Rattle.std.proofs.Common.{◌≡◌, ℕ, ◌+◌, ◌*◌, ◌<◌, ◌≤◌, Bool, true, false, cond, not, ◌&&◌, ◌||◌, eqb, leb, ◌⊎◌, List, [], ◌∷◌, ◌++◌, sym, refl, ap, ◌∙◌, subst, inl, inr, ⊎_elim, arith}
-use Rattle.std.specs.List.{AllByRecursion as All}
+use Rattle.std.specs.List.{AllByRecursion}
 use Rattle.std.proofs.lemmas.Bool.{and_parts, or_cases, leb-true, cond_both}
 use Rattle.rates.specs.Kinds.{Kind, Laws, NoWorse}
 use Rattle.rates.specs.Order.{le_from, le_trans, join_right, join_still, left_commutative, not_both}
@@ -38,8 +38,8 @@ cut_at u w (x ∷ list) (inr h) =
     let c = cut_at x w list h in
     record { front = x ∷ c.front; back = c.back; whole = ap (λ l. x ∷ l) c.whole; ends = c.ends }
 
-pub kept_all : (P : Part → Type 0) (q : Part) (rest : List Part) → P q → All P rest → All P (kept q rest)
-kept_all P q rest h k = cond_both (eqb q.from q.to) rest (q ∷ rest) (All P) (λ t. k) (λ t. (h, k))
+pub kept_all : (P : Part → Type 0) (q : Part) (rest : List Part) → P q → AllByRecursion P rest → AllByRecursion P (kept q rest)
+kept_all P q rest h k = cond_both (eqb q.from q.to) rest (q ∷ rest) (AllByRecursion P) (λ t. k) (λ t. (h, k))
 
 module _ {M : Type 0} (K : Kind M) (X : Laws K) where
   along_reached : (m : LaneMap M) (u v : ℕ) (list : List ℕ) → Linked K m u list → final u list ≡ v → Reached K X m u v (rate_along K m u list)
@@ -114,9 +114,9 @@ module _ {M : Type 0} (K : Kind M) (X : Laws K) where
 
     abbrev pub Pairwise : List Part → Type 0
     Pairwise [] = Unit {0}
-    Pairwise (q ∷ parts) = All (Separate q) parts × Pairwise parts
+    Pairwise (q ∷ parts) = AllByRecursion (Separate q) parts × Pairwise parts
 
-    kept_pairwise : (q : Part) (rest : List Part) → All (Separate q) rest → Pairwise rest → Pairwise (kept q rest)
+    kept_pairwise : (q : Part) (rest : List Part) → AllByRecursion (Separate q) rest → Pairwise rest → Pairwise (kept q rest)
     kept_pairwise q rest h k = cond_both (eqb q.from q.to) rest (q ∷ rest) Pairwise (λ t. k) (λ t. (h, k))
 
     module _ (p : ℕ) (r : p + 5 < 2 * n) (c : Cut n (ends_of sides) ps p) where
@@ -239,8 +239,8 @@ module _ {M : Type 0} (K : Kind M) (X : Laws K) where
           known_seam : (b i : Bool) → Among (seam i) (known (child P b))
           known_seam b i = inr (inr (seam_edge b i))
 
-          pub split_known : Among u (known p) → Among v (known p) → All (EndsAmong known) (split_at K best P x y u v)
-          split_known ku kv = split_cases (All (EndsAmong known))
+          pub split_known : Among u (known p) → Among v (known p) → AllByRecursion (EndsAmong known) (split_at K best P x y u v)
+          split_known ku kv = split_cases (AllByRecursion (EndsAmong known))
               (λ b i hu hv better.
               let q = child_part K best P x y u v b u (seam i) in
               let q' = child_part K best P x y u v (not b) (seam i) (seam (not i)) in

@@ -1,7 +1,7 @@
 -- A part of a cut piece is split into parts of its children that follow on one another and have its rate.
 -- Assumes the laws of the kind and a plan in order with the best rates within its pieces.
 use Rattle.std.proofs.Common.{◌≡◌, ℕ, suc, ◌+◌, ◌*◌, ◌<◌, ◌≤◌, Bool, true, false, cond, not, ◌&&◌, ◌||◌, eqb, leb, ◌⊎◌, List, [], ◌∷◌, map, length, sym, refl, ap, ◌∙◌, subst, inl, inr, ⊎_elim, arith}
-use Rattle.std.specs.List.{AllByRecursion as All}
+use Rattle.std.specs.List.{AllByRecursion}
 use Rattle.std.proofs.lemmas.Bool.{and_parts, and_from, or_cases, or_left, or_right, leb-true, le-leb, cases_Bool, cases_lt, cond-true, cond-false, cond_both, eqb-true, eqb-false, true≢false, false≢true}
 use Rattle.rates.specs.Kinds.{Kind, Laws, NoWorse}
 use Rattle.rates.specs.Many.{better_of, joined_all}
@@ -156,7 +156,7 @@ module _ {M : Type 0} (K : Kind M) (X : Laws K) where
       record Built (u v : ℕ) (s : M) (k : ℕ) (parts : List Part) : Type 0 where
         few : length parts ≤ k
         chain : Chain u v parts
-        children : All (ChildPart K n e ps best p) parts
+        children : AllByRecursion (ChildPart K n e ps best p) parts
         same_rate : joined_all K (map (part_rate K best) parts) ≡ s
 
       built_nothing : (v : ℕ) → Built v v K.still 0 []

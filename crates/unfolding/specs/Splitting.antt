@@ -1,7 +1,7 @@
 -- A part split keeps its rate: what its parts are.
 -- Assumes the terms of `Parts`; n is the number of terminals, m the book's lanes, e the ends of the sides, ps the piece records.
 use Rattle.std.specs.Prelude.{◌≡◌, ℕ, ◌+◌, ◌*◌, ◌<◌, ◌≤◌, Bool, ◌⊎◌, List, [], ◌∷◌, map, length}
-use Rattle.std.specs.List.{AllByRecursion as All}
+use Rattle.std.specs.List.{AllByRecursion}
 use Rattle.rates.specs.Kinds.{Kind}
 use Rattle.rates.specs.Many.{joined_all}
 use Rattle.trips.specs.Trips.{LaneMap, BestRate}
@@ -65,7 +65,7 @@ module _ {M : Type 0} (K : Kind M) where
     pub record SplitStands (q : Part) (parts : List Part) : Type 0 where
       pub at_most_three : length parts ≤ 3
       pub chain : Chain q.from q.to parts
-      pub children : All (ChildPart q.piece) parts
+      pub children : AllByRecursion (ChildPart q.piece) parts
       pub same_rate : joined_all K (map (part_rate K best) parts) ≡ part_rate K best q
 
   -- there is such a table of best rates

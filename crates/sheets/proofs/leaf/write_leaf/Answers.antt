@@ -1,4 +1,4 @@
-use Rattle.std.proofs.Common.{◌<◌, map, length, drop, ◌∙◌, arith, rules}
+use Rattle.std.proofs.Common.{◌<◌, map, length, ◌∙◌, arith, rules}
 use Rattle.std.proofs.lemmas.List.{drop-set-lt}
 use Rattle.records.specs.Few.{listed}
 use Rattle.pieces.specs.Sides.{ends_of}

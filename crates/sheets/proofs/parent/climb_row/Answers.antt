@@ -1,4 +1,4 @@
-use Rattle.std.proofs.Common.{◌<◌, cond, ltb, map, length, sym, ap, ◌∙◌, arith, rules}
+use Rattle.std.proofs.Common.{◌<◌, cond, ltb, map, length, ap, ◌∙◌, arith, rules}
 use Rattle.sheets.specs.Places.{climbed_at}
 use Rattle.sheets.proofs.Reading.{row_next, climbed_below, none_past}
 use Rattle.sheets.proofs.parent.climb_row.Goals as goal
