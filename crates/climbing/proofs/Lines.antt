@@ -1,21 +1,18 @@
 -- Lines climb over a seam, meet at it, and begin at sheets and triangles.
 -- Assumes the laws of the kind.
-use Rattle.std.proofs.Common.{◌≡◌, ℕ, zero, suc, ◌+◌, ◌*◌, ◌<◌, ◌≤◌, Bool, true, false, cond, not, ◌&&◌, ◌||◌, leb, ◌⊎◌, List, [], ◌∷◌, length, get_or, Decides, sym, refl, ap, ◌∙◌, subst, inl, inr, ⊎_elim, arith}
+use Rattle.std.proofs.Common.{◌≡◌, ℕ, zero, suc, ◌+◌, ◌*◌, ◌<◌, ◌≤◌, Bool, true, false, cond, not, ◌&&◌, ◌||◌, leb, List, [], ◌∷◌, length, get_or, sym, refl, ap, ◌∙◌, subst, ⊎_elim, arith}
 use Rattle.std.proofs.lemmas.Bool.{and_from, or_left, or_right, le-leb, cond_both, cases_lt, both_ways}
 use Rattle.std.proofs.lemmas.List.{get_or_past}
 use Rattle.rates.specs.Kinds.{Kind, Laws}
 use Rattle.rates.specs.Many.{better_of}
-use Rattle.trips.specs.Trips.{LaneMap, NoEarning, BestRate}
-use Rattle.trips.specs.Climbs.{Known, RowShows, ColumnShows, climb_own, climb_other, by_seam}
+use Rattle.trips.specs.Trips.{LaneMap, BestRate}
+use Rattle.trips.specs.Climbs.{Known, climb_own, climb_other}
 use Rattle.trips.proofs.Shown.{climb_is_best, mirrored_climb_is_best, rows_and_columns_meet}
 use Rattle.records.specs.declared.Piece.{Piece}
-use Rattle.records.specs.declared.Few.{Few}
 use Rattle.records.specs.Few.{listed, Among}
 use Rattle.pieces.specs.Sides.{Ends}
 use Rattle.piece_rates.specs.Lanes.{piece_lanes}
-use Rattle.piece_rates.specs.Sheets.{SheetShows}
-use Rattle.piece_rates.specs.Sizes.{largest, Within, PlanLanes}
-use Rattle.piece_rates.specs.Climbing.{place, among, Outside, CutShape, table_of, child_edges, child_table, seam_ends}
+use Rattle.piece_rates.specs.Climbing.{place, among, child_edges, child_table, seam_ends}
 use Rattle.piece_rates.specs.Parents.{PartsShown}
 use Rattle.piece_rates.specs.Triangles.{triangle_entry}
 use Rattle.piece_rates.specs.Leaves.{leaf_lanes, LeafStands, LeafSheet}
@@ -23,7 +20,7 @@ use Rattle.piece_rates.proofs.Holding.{among_decided, place_below, at_place}
 use Rattle.piece_rates.proofs.Parents.{known}
 use Rattle.piece_rates.proofs.Sizes.{piece_no_earning, best_within, at_among}
 use Rattle.piece_rates.proofs.Leaves.{leaf_shows}
-use Rattle.climbing.specs.Lines.{OnSide, turned, BestBetween, LineShows, rate_to, cells, climbed_line, ClimbedLine, by_column, LinesClimb, LinesMeet, SheetsHaveLines, TriangleLine, TrianglesHaveLines, LinesAreWithin}
+use Rattle.climbing.specs.Lines.{OnSide, turned, BestBetween, LineShows, rate_to, cells, ClimbedLine, by_column, LinesClimb, LinesMeet, SheetsHaveLines, TrianglesHaveLines, LinesAreWithin}
 
 -- the test that a terminal lies on a side of the seam
 abbrev on_side : Bool → ℕ → ℕ → ℕ → Bool

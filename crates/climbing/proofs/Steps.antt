@@ -1,16 +1,15 @@
 -- In a plan in order, lines climb from a piece to its parent and meet there.
 -- Assumes the laws of the kind.
-use Rattle.std.proofs.Common.{◌≡◌, ℕ, ◌+◌, ◌*◌, ◌<◌, ◌≤◌, Bool, true, false, cond, not, eqb, ◌⊎◌, List, length, take, drop, sym, refl, ap, ◌∙◌, subst, inl, inr, ⊎_elim, arith, length-take}
+use Rattle.std.proofs.Common.{ℕ, ◌+◌, ◌*◌, ◌<◌, Bool, true, false, eqb, List, drop, sym, subst, ⊎_elim, arith, length-take}
 use Rattle.std.proofs.lemmas.Bool.{cond-true, cond-false, eq-eqb, ne_eqb}
 use Rattle.rates.specs.Kinds.{Kind, Laws}
 use Rattle.rates.specs.Many.{better_of}
 use Rattle.trips.specs.Trips.{LaneMap, BestRate}
 use Rattle.ring.specs.declared.Side.{Side}
 use Rattle.records.specs.declared.Piece.{Piece}
-use Rattle.pieces.specs.Sides.{Ends, ends_of, span}
+use Rattle.pieces.specs.Sides.{Ends, ends_of}
 use Rattle.pieces.specs.Holding.{piece_at}
 use Rattle.pieces.proofs.Holders.{UnderCut, under_cut}
-use Rattle.piece_rates.specs.Climbing.{Outside}
 use Rattle.piece_rates.specs.Sheets.{sheet_of}
 use Rattle.piece_rates.specs.Sizes.{Within}
 use Rattle.piece_rates.specs.Parents.{PartsShown}
@@ -20,7 +19,7 @@ use Rattle.piece_rates.proofs.Cuts.{cuts_have_shape}
 use Rattle.piece_rates.proofs.Sizes.{shown_is_within}
 use Rattle.piece_rates.proofs.Touching.{touch_first, touch_second}
 use Rattle.climbing.specs.Lines.{OnSide, LineShows, ClimbedLine, by_column}
-use Rattle.climbing.specs.Steps.{across_of, seam_of_piece, edges_of, ClimbedFrom, by_seam_from, lanes_of, StepKeeps, StepsKeep}
+use Rattle.climbing.specs.Steps.{across_of, edges_of, lanes_of, StepKeeps, StepsKeep}
 use Rattle.climbing.proofs.Lines.{lines_climb, lines_meet}
 
 module _ {M : Type 0} (K : Kind M) (X : Laws K) (n : ℕ) (m : LaneMap M) (sides : List Side) (ps : List Piece) (area sheets : List M) (h : InOrder K n m sides ps area sheets) where

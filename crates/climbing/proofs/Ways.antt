@@ -1,15 +1,14 @@
 -- Ways down towards terminals stay with pieces that touch them, and ways up come back.
 -- Assumes a division of a filled ring.
-use Rattle.std.proofs.Common.{◌≡◌, ℕ, zero, suc, ◌+◌, ◌*◌, ◌<◌, ◌≤◌, Bool, true, false, cond, not, ◌&&◌, ◌||◌, eqb, leb, ◌⊎◌, List, sym, refl, ap, ◌∙◌, subst, inl, inr, ⊎_elim, arith}
+use Rattle.std.proofs.Common.{◌≡◌, ℕ, ◌+◌, ◌*◌, ◌<◌, ◌≤◌, Bool, true, false, cond, not, ◌&&◌, eqb, leb, List, sym, refl, ap, ◌∙◌, subst, inl, inr, ⊎_elim, arith}
 use Rattle.std.proofs.lemmas.Bool.{cond_both, cond-false, cond-true, eq-eqb, ne_eqb, and_parts, and_from, or_cases, or_left, or_right, leb-true, le-leb, leb-false, cases_Bool, both_ways}
 use Rattle.records.specs.declared.Piece.{Piece}
-use Rattle.records.specs.Few.{listed, Among}
 use Rattle.pieces.specs.Sides.{Ends, span, Filled}
 use Rattle.pieces.specs.Holding.{piece_at, Above}
 use Rattle.pieces.specs.Holding.Above.{parent, higher}
-use Rattle.pieces.specs.Division.{Division, Uncut, CutInTwo}
+use Rattle.pieces.specs.Division.{Division, CutInTwo}
 use Rattle.pieces.specs.Holders.{OnWayUp}
-use Rattle.pieces.proofs.Holders.{UnderCut, under_cut}
+use Rattle.pieces.proofs.Holders.{under_cut}
 use Rattle.piece_rates.specs.Climbing.{Outside}
 use Rattle.piece_rates.specs.Touching.{Touches}
 use Rattle.piece_rates.proofs.Touching.{inside_touches_first, outside_touches_second, first_touches, second_touches}

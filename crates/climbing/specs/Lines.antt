@@ -10,7 +10,7 @@ use Rattle.records.specs.Few.{listed, Among}
 use Rattle.pieces.specs.Sides.{Ends}
 use Rattle.piece_rates.specs.Lanes.{piece_lanes}
 use Rattle.piece_rates.specs.Sheets.{SheetShows}
-use Rattle.piece_rates.specs.Sizes.{largest, Within, PlanLanes}
+use Rattle.piece_rates.specs.Sizes.{Within, PlanLanes}
 use Rattle.piece_rates.specs.Climbing.{place, among, Outside, table_of, seam_ends}
 use Rattle.piece_rates.specs.Parents.{PartsShown}
 use Rattle.piece_rates.specs.Triangles.{triangle_entry}

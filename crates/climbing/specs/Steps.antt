@@ -1,6 +1,6 @@
 -- Lines of a plan in order, from a piece to its parent.
 -- Assumes the terms of `Lines` and `Changes`.
-use Rattle.std.specs.Prelude.{◌≡◌, ℕ, ◌+◌, ◌*◌, ◌<◌, Bool, true, false, cond, not, ◌⊎◌, List, length, ◌==◌, ◌≢◌}
+use Rattle.std.specs.Prelude.{◌≡◌, ℕ, ◌+◌, ◌*◌, ◌<◌, Bool, true, false, cond, List, ◌==◌, ◌≢◌}
 use Rattle.rates.specs.Kinds.{Kind}
 use Rattle.rates.specs.Many.{better_of}
 use Rattle.trips.specs.Trips.{LaneMap, BestRate}

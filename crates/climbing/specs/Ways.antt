@@ -3,9 +3,9 @@
 use Rattle.std.specs.Prelude.{◌≡◌, ℕ, ◌+◌, ◌*◌, ◌<◌, Bool, cond, not, ◌&&◌, ◌||◌, ◌⊎◌, List, ◌≢◌, nat_le}
 use Rattle.records.specs.declared.Piece.{Piece}
 use Rattle.records.specs.Few.{listed, Among}
-use Rattle.pieces.specs.Sides.{Ends, span, Filled}
+use Rattle.pieces.specs.Sides.{Ends, Filled}
 use Rattle.pieces.specs.Holding.{piece_at}
-use Rattle.pieces.specs.Division.{Division, Uncut}
+use Rattle.pieces.specs.Division.{Division}
 use Rattle.pieces.specs.Holders.{OnWayUp}
 use Rattle.piece_rates.specs.Touching.{Touches}
 use Rattle.climbing.specs.Lines.{OnSide}

@@ -1,6 +1,6 @@
 // How much lies below a side: holes, or triangles outside the holes.
 ghost use Rattle.std.specs.Prelude.{◌≡◌, ◌-◌, cond, if◌then◌else◌};
-ghost use Rattle.pieces.specs.Cuts.{heavier as heavier_child, load as load_of, triangles as triangles_of, weight as weight_of};
+ghost use Rattle.pieces.specs.Cuts.{heavier as heavier_child, load as load_over, triangles as triangles_of, weight as weight_of};
 ghost use Rattle.pieces.specs.Sides.{lengths, within};
 ghost use Rattle.records.specs.Few.{listed};
 
@@ -23,7 +23,7 @@ fn load_of(sides: &[Side], hole: u16, by_holes: bool, v: u16) -> u16
 
 // The holes at or below the side v: their number, or the triangles on them and below.
 pub fn load(sides: &[Side], holes: Few, by_holes: bool, v: u16) -> usize
-    ensures { result ≡ load_of (lengths sides.now) (λ h. cond by_holes 1 (lengths sides.now h - 1)) (listed holes) v }
+    ensures { result ≡ load_over (lengths sides.now) (λ h. cond by_holes 1 (lengths sides.now h - 1)) (listed holes) v }
 {
     let mut sum: usize = 0;
     for k in 0..holes.len() {

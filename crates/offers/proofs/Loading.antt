@@ -1,7 +1,7 @@
 -- A number of tonnes within the limit is read as that load.
 -- Assumes nothing.
-use Rattle.std.proofs.Common.{◌≡◌, ℕ, ◌<◌, T, leb, ℤ, pos, sym, refl, ap, subst, arith, leb→le}
-use Rattle.rates.specs.Loads.{Load, most_tonnes}
+use Rattle.std.proofs.Common.{◌≡◌, ℕ, T, leb, ℤ, pos, sym, refl, ap, subst, arith, leb→le}
+use Rattle.rates.specs.Loads.{most_tonnes}
 use Rattle.rates.specs.Loads.Load.{up_to}
 use Rattle.rates.specs.Such.{such_same}
 use Rattle.offers.specs.Words.{LoadOf}

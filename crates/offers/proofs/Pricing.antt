@@ -1,13 +1,12 @@
 -- The join of an offered trip's lane rates is exact, since there are few and none is large.
 -- Assumes the laws of the kind.
-use Rattle.std.proofs.Common.{◌≡◌, ℕ, ◌+◌, ◌*◌, ◌<◌, ◌≤◌, Bool, true, false, not, List, [], ◌∷◌, map, length, get_or, sym, refl, ap, ◌∙◌, arith, below_more}
+use Rattle.std.proofs.Common.{◌≡◌, ℕ, ◌+◌, ◌*◌, ◌<◌, ◌≤◌, Bool, true, false, List, [], ◌∷◌, map, length, get_or, sym, ap, ◌∙◌, arith, below_more}
 use Rattle.std.specs.List.{AllByRecursion}
 use Rattle.std.proofs.lemmas.List.{get_or-map, length-map}
 use Rattle.std.proofs.ByRecursion.{All-from_get_or}
-use Rattle.std.proofs.lemmas.Bool.{not-true, not-false}
 use Rattle.rates.specs.Kinds.{Kind, Laws, exact_size}
-use Rattle.rates.specs.Many.{sizes, joined_all}
-use Rattle.offers.specs.Offers.{LaneRates, FirstNoLane, Offer, most_lanes}
+use Rattle.rates.specs.Many.{sizes}
+use Rattle.offers.specs.Offers.{LaneRates, FirstNoLane, Offer}
 
 module _ {M : Type 0} (K : Kind M) (X : Laws K) where
   sizes_bound : (lanes : List M) → AllByRecursion (λ a. K.lane a ≡ true) lanes → sizes K lanes ≤ 1000000000 * length lanes

@@ -1,6 +1,6 @@
 -- When an offered trip has a price, and which.
 -- Assumes nothing.
-use Rattle.std.specs.Prelude.{◌≡◌, ℕ, ◌<◌, ◌≤◌, true, false, List, [], length, Some, None, Ok, Err, Option, Result, slice_index_or}
+use Rattle.std.specs.Prelude.{◌≡◌, ℕ, ◌<◌, ◌≤◌, true, false, List, length, Some, None, Ok, Err, Option, Result, slice_index_or}
 use Rattle.rates.specs.Kinds.{Kind}
 use Rattle.rates.specs.Many.{joined_all}
 use Rattle.offers.specs.declared.offer.Refusal.{Refusal}

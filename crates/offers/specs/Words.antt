@@ -1,6 +1,6 @@
 -- What a word writes, as a number, as cents and as a load.
 -- Assumes nothing.
-use Rattle.std.specs.Prelude.{◌≡◌, ℕ, ◌<◌, T, List, ℤ, pos, negsuc, Some, None, Option, FitsSigned, nat_le}
+use Rattle.std.specs.Prelude.{◌≡◌, ℕ, ◌<◌, T, List, ℤ, pos, negsuc, FitsSigned, nat_le}
 use Rattle.std.specs.Int.{w64}
 use Rattle.std.specs.Str.Parse.{IsNumeral, without_leading_sign, signed_digits_value}
 use Rattle.rates.specs.Loads.{Load, tonnes_kind, most_tonnes}

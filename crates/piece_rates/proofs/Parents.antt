@@ -131,7 +131,7 @@ module _ {M : Type 0} (K : Kind M) (X : Laws K) where
           (λ z. climbs.own_part t z)
           (λ z. climbs.other_part t (in_other t t_edge c z))
 
-      -- the child that parent-entry takes for s has s
+      -- the child that parent_entry takes for s has s
       first_that_has : (s : ℕ) → Among s (listed P.edges) → (c : Bool) → among (listed A.edges) s ≡ c → chosen c s ≡ true
       first_that_has s h true z = z
       first_that_has s h false z = in_other s h true z

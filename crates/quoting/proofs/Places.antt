@@ -1,6 +1,6 @@
 -- Places of sheets and lines, and the sizes that keep each join exact.
 -- Assumes the laws where they are named.
-use Rattle.std.proofs.Common.{◌≡◌, ℕ, zero, suc, ◌+◌, ◌*◌, ◌<◌, ◌≤◌, Bool, true, false, cond, ltb, ◌⊎◌, List, [], ◌∷◌, map, length, get_or, take, drop, Decides, sym, refl, ap, ◌∙◌, subst, inl, inr, ⊎_elim, arith, length-take, get_or-drop}
+use Rattle.std.proofs.Common.{◌≡◌, ℕ, zero, suc, ◌+◌, ◌*◌, ◌<◌, ◌≤◌, Bool, true, false, cond, ltb, List, [], ◌∷◌, length, get_or, drop, Decides, sym, ap, ◌∙◌, subst, ⊎_elim, arith, length-take, get_or-drop}
 use Rattle.std.proofs.lemmas.Bool.{cond-true, cond-false, lt-ltb, le-ltb}
 use Rattle.std.proofs.lemmas.List.{get_or_past, get_or-take}
 use Rattle.rates.specs.Kinds.{Kind, Laws}
@@ -12,7 +12,7 @@ use Rattle.piece_rates.specs.Sheets.{sheet_of}
 use Rattle.piece_rates.specs.Sizes.{largest, Within}
 use Rattle.piece_rates.proofs.Holding.{among_decided}
 use Rattle.piece_rates.proofs.Places.{among_place}
-use Rattle.climbing.specs.Lines.{turned, cells}
+use Rattle.climbing.specs.Lines.{cells}
 use Rattle.quoting.specs.Places.{shown, cell_at, to_end_at, to_low_at, to_high_at, by_ends_at, by_line_at, climb_at, climbed_at, by_seam_at}
 use Rattle.quoting.specs.declared.lines.Line.{Line}
 use Rattle.quoting.specs.declared.steps.Half.{Half}

@@ -1,38 +1,36 @@
 -- Lines and best rates of a plan in order, from what the places hold.
 -- Assumes the laws of the kind.
-use Rattle.std.proofs.Common.{◌≡◌, ℕ, ◌+◌, ◌*◌, ◌<◌, ◌≤◌, Bool, true, false, cond, not, eqb, ltb, ◌⊎◌, List, length, get_or, take, sym, refl, ap, ◌∙◌, subst, inl, inr, ⊎_elim, arith, length-take}
+use Rattle.std.proofs.Common.{◌≡◌, ℕ, ◌+◌, ◌*◌, ◌<◌, ◌≤◌, Bool, true, false, cond, ltb, ◌⊎◌, List, length, get_or, sym, ap, ◌∙◌, subst, inl, ⊎_elim, arith, length-take}
 use Rattle.std.proofs.lemmas.Bool.{cond-true, cond-false, lt-ltb, le-ltb, cases_lt}
 use Rattle.std.proofs.lemmas.List.{get_or_past}
 use Rattle.rates.specs.Kinds.{Kind, Laws}
 use Rattle.rates.specs.Many.{better_of}
-use Rattle.trips.specs.Trips.{LaneMap, NoEarning, BestRate}
+use Rattle.trips.specs.Trips.{LaneMap, BestRate}
 use Rattle.trips.proofs.Walks.{rate_of_best, reached_stay, closed_no_better}
 use Rattle.ring.specs.declared.Side.{Side}
 use Rattle.records.specs.declared.Piece.{Piece}
-use Rattle.records.specs.declared.Few.{Few}
 use Rattle.records.specs.Few.{listed, Among}
-use Rattle.pieces.specs.Sides.{Ends, ends_of, span, right_of}
+use Rattle.pieces.specs.Sides.{Ends, ends_of, span}
 use Rattle.pieces.specs.Holding.{piece_at}
 use Rattle.pieces.specs.Division.{Uncut}
-use Rattle.pieces.specs.Holders.{OnWayUp}
-use Rattle.piece_rates.specs.Climbing.{place, among, table_of}
+use Rattle.piece_rates.specs.Climbing.{place}
 use Rattle.piece_rates.specs.Sheets.{sheet_of}
-use Rattle.piece_rates.specs.Sizes.{largest, Within}
+use Rattle.piece_rates.specs.Sizes.{Within}
 use Rattle.piece_rates.specs.Lanes.{piece_lanes}
 use Rattle.piece_rates.specs.Changes.{InOrder}
 use Rattle.piece_rates.specs.Leaves.{corner_lanes, leaf_lanes, LanesWithin, LeafStands}
 use Rattle.piece_rates.specs.Triangles.{triangle_entry}
 use Rattle.piece_rates.specs.Touching.{Touches}
 use Rattle.piece_rates.proofs.Holding.{among_decided, place_below, at_place}
-use Rattle.piece_rates.proofs.Places.{among_place, place_absent}
+use Rattle.piece_rates.proofs.Places.{among_place}
 use Rattle.piece_rates.proofs.Sizes.{piece_no_earning}
 use Rattle.piece_rates.proofs.Leaves.{leaf_lanes_held}
 use Rattle.piece_rates.proofs.Touching.{all_touch_whole, whole_lanes}
 use Rattle.sheets.specs.Triangles.{TriangleRead}
 use Rattle.sheets.proofs.Leaves.{read_as}
-use Rattle.climbing.specs.Lines.{OnSide, turned, cells, LineShows, TriangleLine}
-use Rattle.climbing.specs.Ways.{Reaches, Ending, Parting, Parts, towards, between}
-use Rattle.climbing.specs.Steps.{across_of, seam_of_piece, edges_of, lanes_of, PartedAt, StepKeeps}
+use Rattle.climbing.specs.Lines.{turned, cells, LineShows, TriangleLine}
+use Rattle.climbing.specs.Ways.{Reaches, Ending, Parts, towards}
+use Rattle.climbing.specs.Steps.{across_of, edges_of, lanes_of, PartedAt, StepKeeps}
 use Rattle.climbing.proofs.Lines.{sheets_have_lines, triangles_have_lines, lines_are_within}
 use Rattle.climbing.proofs.Ways.{ways_up, parted_between_children}
 use Rattle.climbing.proofs.Steps.{steps_keep}

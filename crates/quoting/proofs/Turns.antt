@@ -1,16 +1,15 @@
 -- Single turns of the ways down and up, on plain values.
 -- Assumes a division of a filled ring.
-use Rattle.std.proofs.Common.{◌≡◌, ℕ, ◌+◌, ◌*◌, ◌<◌, ◌≤◌, Bool, true, false, ◌⊎◌, List, Decides, sym, refl, ap, ◌∙◌, subst, inl, inr, ⊎_elim, arith}
+use Rattle.std.proofs.Common.{◌≡◌, ℕ, ◌+◌, ◌*◌, ◌<◌, ◌≤◌, Bool, false, ◌⊎◌, List, Decides, sym, refl, ap, ◌∙◌, subst, inl, inr, ⊎_elim, arith}
 use Rattle.std.proofs.lemmas.Bool.{both_ways}
 use Rattle.records.specs.declared.Piece.{Piece}
 use Rattle.records.specs.Few.{listed, Among}
 use Rattle.pieces.specs.Sides.{Ends, Filled}
 use Rattle.pieces.specs.Holding.{piece_at}
 use Rattle.pieces.specs.Division.{Division}
-use Rattle.pieces.specs.Holders.{OnWayUp}
 use Rattle.piece_rates.specs.Touching.{Touches}
-use Rattle.climbing.specs.Ways.{towards, towards_both, Reaches, Begins, Ending, Parting, Parts}
-use Rattle.climbing.proofs.Ways.{ways_down, ways_part, ways_up}
+use Rattle.climbing.specs.Ways.{towards, towards_both, Reaches, Begins, Ending, Parts}
+use Rattle.climbing.proofs.Ways.{ways_down, ways_part}
 
 -- what a test that failed says
 pub denied : {b : Bool} {P : Type 0} → Decides b P → b ≡ false → P → ⊥

@@ -42,8 +42,8 @@ module _ {M N : Type 0} (K : Kind M) (L : Kind N) (X : Laws K) (Y : Laws L) wher
   still_is : (pair_kind K L).still ≡ couple (other_still K X) (other_still L Y)
   still_is = couple_of_parts (other_still K X) (other_still L Y)
 
-  abbrev ParamKind : Kind (Couple K L)
-  ParamKind = pair_kind K L
+  abbrev couple_kind : Kind (Couple K L)
+  couple_kind = pair_kind K L
 
   associative : (x y z : Couple K L) → joined K L (joined K L x y) z ≡ joined K L x (joined K L y z)
   associative no_couple y z = refl
@@ -64,7 +64,7 @@ module _ {M N : Type 0} (K : Kind M) (L : Kind N) (X : Laws K) (Y : Laws L) wher
       ap (λ v. couple_of K L v (L.join b.value d.value)) (X.join_commutative a.value c.value)
       ∙ ap (λ v. couple_of K L (K.join c.value a.value) v) (Y.join_commutative b.value d.value)
 
-  unit : (x : Couple K L) → joined K L ParamKind.still x ≡ x
+  unit : (x : Couple K L) → joined K L couple_kind.still x ≡ x
   unit no_couple = ap (λ v. joined K L v no_couple) still_is
   unit (couple a b) =
       ap (λ v. joined K L v (couple a b)) still_is
@@ -81,7 +81,7 @@ module _ {M N : Type 0} (K : Kind M) (L : Kind N) (X : Laws K) (Y : Laws L) wher
   by_firsts false true z e = inl refl
   by_firsts false false z e = inr (refl, refl, e)
 
-  lexical : (a c : Other K) (b d : Other L) → NoWorse ParamKind (couple a b) (couple c d) → Lexical a.value b.value c.value d.value
+  lexical : (a c : Other K) (b d : Other L) → NoWorse couple_kind (couple a b) (couple c d) → Lexical a.value b.value c.value d.value
   lexical a c b d h =
       ⊎_elim inl
       (λ t. inr (X.neither_better_same a.value c.value (record { fact = t.0 }) (record { fact = t.1 }), record { fact = t.2 }))
@@ -93,7 +93,7 @@ module _ {M N : Type 0} (K : Kind M) (L : Kind N) (X : Laws K) (Y : Laws L) wher
   firsts false false z e (inl h) = absurd (false≢true h)
   firsts false false z e (inr h) = h
 
-  of_lexical : (a c : Other K) (b d : Other L) → Lexical a.value b.value c.value d.value → NoWorse ParamKind (couple a b) (couple c d)
+  of_lexical : (a c : Other K) (b d : Other L) → Lexical a.value b.value c.value d.value → NoWorse couple_kind (couple a b) (couple c d)
   of_lexical a c b d (inl e) = record {
     fact = firsts (K.better c.value a.value) (K.better a.value c.value) (L.better d.value b.value) (le_better K X e).fact (inl e);
   }
@@ -101,10 +101,10 @@ module _ {M N : Type 0} (K : Kind M) (L : Kind N) (X : Laws K) (Y : Laws L) wher
     fact = firsts (K.better c.value a.value) (K.better a.value c.value) (L.better d.value b.value) (le_from K X a.value c.value e).fact (inr h.fact);
   }
 
-  no_couple_worst : (x : Couple K L) → NoWorse ParamKind x no_couple
+  no_couple_worst : (x : Couple K L) → NoWorse couple_kind x no_couple
   no_couple_worst x = record { fact = refl }
 
-  total : (x y : Couple K L) → NoWorse ParamKind x y ⊎ NoWorse ParamKind y x
+  total : (x y : Couple K L) → NoWorse couple_kind x y ⊎ NoWorse couple_kind y x
   total no_couple y = inr (no_couple_worst y)
   total (couple a b) no_couple = inl (no_couple_worst (couple a b))
   total (couple a b) (couple c d) =
@@ -120,7 +120,7 @@ module _ {M N : Type 0} (K : Kind M) (L : Kind N) (X : Laws K) (Y : Laws L) wher
   lexical_trans a b c d e f (inr (p, h)) (inl q) = inl (subst (λ v. K.better v e ≡ true) (sym p) q)
   lexical_trans a b c d e f (inr (p, h)) (inr (q, k)) = inr (p ∙ q, le_trans L Y h k)
 
-  transitive : (x y z : Couple K L) → NoWorse ParamKind x y → NoWorse ParamKind y z → NoWorse ParamKind x z
+  transitive : (x y z : Couple K L) → NoWorse couple_kind x y → NoWorse couple_kind y z → NoWorse couple_kind x z
   transitive x y no_couple h k = no_couple_worst x
   transitive x no_couple (couple e f) h k = absurd (true≢false k.fact)
   transitive no_couple (couple c d) (couple e f) h k = absurd (true≢false h.fact)
@@ -133,7 +133,7 @@ module _ {M N : Type 0} (K : Kind M) (L : Kind N) (X : Laws K) (Y : Laws L) wher
   lexical_same a b c d (inr (p, h)) (inl q) = absurd (not_both K X q (le_from K X a c p))
   lexical_same a b c d (inr (p, h)) (inr (q, k)) = (p, Y.neither_better_same b d h k)
 
-  same_couple : (x y : Couple K L) → NoWorse ParamKind x y → NoWorse ParamKind y x → x ≡ y
+  same_couple : (x y : Couple K L) → NoWorse couple_kind x y → NoWorse couple_kind y x → x ≡ y
   same_couple no_couple no_couple h k = refl
   same_couple no_couple (couple c d) h k = absurd (true≢false h.fact)
   same_couple (couple a b) no_couple h k = absurd (true≢false k.fact)
@@ -161,7 +161,7 @@ module _ {M N : Type 0} (K : Kind M) (L : Kind N) (X : Laws K) (Y : Laws L) wher
       subst (λ v. couple_size K L v ≤ couple_size K L (couple a b) + couple_size K L (couple c d)) (sym (joined_is a c b d))
       (omega (arith, X.join_size a.value c.value, Y.join_size b.value d.value))
 
-  still_size : couple_size K L ParamKind.still ≡ 0
+  still_size : couple_size K L couple_kind.still ≡ 0
   still_size =
       ap (couple_size K L) still_is ∙ omega (arith, X.still_size, Y.still_size)
 
@@ -180,17 +180,17 @@ module _ {M N : Type 0} (K : Kind M) (L : Kind N) (X : Laws K) (Y : Laws L) wher
     lexical_join a b c d e f (inl p) = inl (S.join_keeps_better a c e.value p (none_stands_not K X e.passes))
     lexical_join a b c d e f (inr (p, h)) = inr (ap (λ v. K.join v e.value) p, Y.join_keeps_order b d f h)
 
-    monotone : (x y z : Couple K L) → NoWorse ParamKind x y → NoWorse ParamKind (joined K L x z) (joined K L y z)
+    monotone : (x y z : Couple K L) → NoWorse couple_kind x y → NoWorse couple_kind (joined K L x z) (joined K L y z)
     monotone x no_couple z h = no_couple_worst (joined K L x z)
     monotone no_couple (couple c d) z h = absurd (true≢false h.fact)
     monotone (couple a b) (couple c d) no_couple h = no_couple_worst no_couple
     monotone (couple a b) (couple c d) (couple e f) h =
-        subst (λ v. NoWorse ParamKind v (joined K L (couple c d) (couple e f))) (sym (joined_is a e b f))
-        (subst (λ v. NoWorse ParamKind (couple (other_join K X a e) (other_join L Y b f)) v) (sym (joined_is c e d f))
+        subst (λ v. NoWorse couple_kind v (joined K L (couple c d) (couple e f))) (sym (joined_is a e b f))
+        (subst (λ v. NoWorse couple_kind (couple (other_join K X a e) (other_join L Y b f)) v) (sym (joined_is c e d f))
         (of_lexical (other_join K X a e) (other_join K X c e) (other_join L Y b f) (other_join L Y d f)
         (lexical_join a.value b.value c.value d.value e f.value (lexical a c b d h))))
 
-    pub pair_laws : Laws ParamKind
+    pub pair_laws : Laws couple_kind
     pair_laws = record {
       join_associative = associative;
       join_commutative = commutative;

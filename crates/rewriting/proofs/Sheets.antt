@@ -1,6 +1,6 @@
 -- One sheet written, from what its writing promises; and one more of a row of sheets.
 -- Assumes nothing.
-use Rattle.std.proofs.Common.{◌≡◌, ℕ, ◌+◌, ◌-◌, ◌*◌, ◌<◌, ◌≤◌, ◌⊎◌, List, ◌++◌, map, length, get_or, take, drop, sym, refl, ap, ◌∙◌, subst, inl, inr, ⊎_elim, arith, length-take}
+use Rattle.std.proofs.Common.{◌≡◌, ℕ, ◌+◌, ◌-◌, ◌*◌, ◌<◌, ◌≤◌, List, ◌++◌, map, length, get_or, take, drop, sym, ap, ◌∙◌, subst, ⊎_elim, arith, length-take}
 use borrow.Rule.Slice.PartMut.{put_mid, post_of}
 use Rattle.std.proofs.lemmas.Bool.{cases_order}
 use Rattle.std.proofs.lemmas.List.{get_or_append_left, get_or-append_right, length-map, map-append, take-map, get_or-take}
@@ -8,7 +8,7 @@ use Rattle.rates.specs.Kinds.{Kind}
 use Rattle.trips.specs.Trips.{LaneMap}
 use Rattle.ring.specs.declared.Side.{Side}
 use Rattle.records.specs.declared.Piece.{Piece}
-use Rattle.pieces.specs.Sides.{Ends, ends_of}
+use Rattle.pieces.specs.Sides.{ends_of}
 use Rattle.pieces.specs.Holding.{piece_at}
 use Rattle.piece_rates.specs.Sheets.{SheetShows, sheet_of}
 use Rattle.piece_rates.specs.Parents.{PartsShown}

@@ -1,18 +1,18 @@
 -- Passing the next of the stops to come leaves a trip on its way, and at its end it is a best trip.
 -- Assumes the laws, and the lanes of a plan where no closed trip earns.
-use Rattle.std.proofs.Common.{◌≡◌, ℕ, zero, suc, ◌+◌, ◌<◌, ◌≤◌, min, ◌⊎◌, List, [], ◌∷◌, ◌++◌, length, take, sym, refl, ap, ◌∙◌, subst, inl, inr, ⊎_elim, arith, length-append}
+use Rattle.std.proofs.Common.{◌≡◌, ℕ, ◌+◌, ◌<◌, ◌≤◌, min, List, [], ◌∷◌, ◌++◌, length, take, sym, refl, ap, ◌∙◌, subst, arith, length-append}
 use Rattle.std.specs.List.{AllByRecursion}
 use Rattle.std.proofs.lemmas.List.{length-take-le, take-append-le}
 use Rattle.rates.specs.Kinds.{Kind, Laws, NoWorse}
-use Rattle.rates.specs.Order.{le_from, le_trans, same, join_left, join_right, join_still}
-use Rattle.trips.specs.Trips.{LaneMap, Standing, Over, NoEarning, NoneTwice, BestRate, Trip, rate, stops}
+use Rattle.rates.specs.Order.{le_from, le_trans, same, join_still}
+use Rattle.trips.specs.Trips.{LaneMap, Over, NoEarning, NoneTwice, BestRate, Trip, rate, stops}
 use Rattle.trips.specs.Theorems.{final, Linked, rate_along}
 use Rattle.trips.proofs.Walks.{best_of_rate}
 use Rattle.trips.proofs.Shown.{stops_are_a_trip}
 use Rattle.trips.proofs.Pigeonhole.{pigeonhole}
 use Rattle.piece_rates.specs.Climbing.{place}
 use Rattle.piece_rates.proofs.Places.{place_at_most}
-use Rattle.stops.specs.Passing.{passing, Passed, TripSoFar}
+use Rattle.stops.specs.Passing.{passing, Passed}
 use Rattle.stops.proofs.Passing.{loops_are_cut}
 use Rattle.routing.specs.Turns.{OnTheWay, TripWritten}
 

@@ -1,10 +1,10 @@
 -- Putting a part on the list of those that wait.
 -- Assumes nothing.
-use Rattle.std.proofs.Common.{◌≡◌, ℕ, zero, suc, ◌+◌, ◌<◌, ◌≤◌, Bool, true, false, cond, eqb, List, [], ◌∷◌, length, get_or, set, is_ok, Ok, Err, Result, sym, refl, ap, ◌∙◌, subst, arith}
+use Rattle.std.proofs.Common.{◌≡◌, ℕ, zero, suc, ◌≤◌, eqb, List, ◌∷◌, length, get_or, set, is_ok, Ok, Err, Result, sym, refl, ap, ◌∙◌, arith}
 use Rattle.std.proofs.lemmas.List.{length-set, get_or-set_same, get_or-set_other}
 use Rattle.std.proofs.lemmas.Bool.{cond-false, ne_eqb}
-use Rattle.stack.specs.Moves.{Pushed, PutOn, Popped, TakenOff}
-use Rattle.unfolding.specs.Parts.{Part, kept}
+use Rattle.stack.specs.Moves.{Pushed, PutOn, TakenOff}
+use Rattle.unfolding.specs.Parts.{kept}
 use Rattle.routing.specs.declared.waiting.RoutePart.{RoutePart}
 use Rattle.routing.specs.Waiting.{part_of, no_part, waiting, Put}
 

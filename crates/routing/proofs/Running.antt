@@ -1,7 +1,6 @@
 -- The turns of the loop and its two ends, on plain values.
 -- Assumes the laws and a plan in order.
-use Rattle.std.proofs.Common.{◌≡◌, ℕ, zero, suc, ◌+◌, ◌-◌, ◌*◌, ◌<◌, ◌≤◌, min, Bool, true, false, cond, eqb, ◌⊎◌, List, [], ◌∷◌, ◌++◌, length, get_or, take, sym, refl, ap, ◌∙◌, subst, inl, inr, ⊎_elim, arith}
-use Rattle.std.specs.List.{AllByRecursion}
+use Rattle.std.proofs.Common.{◌≡◌, ℕ, zero, suc, ◌+◌, ◌-◌, ◌*◌, ◌<◌, ◌≤◌, min, Bool, eqb, ◌⊎◌, List, [], ◌∷◌, ◌++◌, length, get_or, take, sym, refl, ap, ◌∙◌, subst, ⊎_elim, arith}
 use Rattle.std.proofs.lemmas.Bool.{cases_eq, cond-true, cond-false, eq-eqb, ne_eqb}
 use Rattle.rates.specs.Kinds.{Kind, Laws}
 use Rattle.trips.specs.Trips.{LaneMap, BestRate}
@@ -10,15 +9,14 @@ use Rattle.ring.specs.declared.Side.{Side}
 use Rattle.records.specs.declared.Piece.{Piece}
 use Rattle.pieces.specs.Sides.{Ends, ends_of, no_side}
 use Rattle.pieces.specs.Holding.{piece_at}
-use Rattle.piece_rates.specs.Lanes.{piece_lanes}
 use Rattle.piece_rates.specs.Leaves.{corner_lanes, leaf_lanes, LanesWithin, LeafStands}
 use Rattle.piece_rates.specs.Changes.{InOrder}
 use Rattle.piece_rates.specs.Touching.{Touches}
 use Rattle.piece_rates.proofs.Leaves.{leaf_lanes_held}
 use Rattle.piece_rates.proofs.Touching.{all_touch_whole, whole_lanes}
 use Rattle.unfolding.specs.Parts.{Part, kept, split, split_at, leaf_stops, triangle_stops}
-use Rattle.unfolding.specs.Splitting.{Leaf, Cut, Rated, PartStands, BestWithinExists}
-use Rattle.unfolding.specs.Turns.{Unfolds, PartsUnfold, FewParts}
+use Rattle.unfolding.specs.Splitting.{Leaf, Cut, Rated, PartStands}
+use Rattle.unfolding.specs.Turns.{PartsUnfold, FewParts}
 use Rattle.unfolding.specs.Turns.Unfolds.{done}
 use Rattle.unfolding.proofs.Splits.{closed_is_still, split_keeps_the_rate}
 use Rattle.sheets.specs.Triangles.{TriangleRead}

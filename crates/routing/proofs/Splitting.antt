@@ -1,23 +1,23 @@
 -- What the code computes at a seam is what the split of a part asks for.
 -- Assumes the laws, and a cut piece at its seam in a plan whose best rates are known.
-use Rattle.std.proofs.Common.{◌≡◌, ℕ, ◌+◌, ◌*◌, ◌<◌, ◌≤◌, Bool, true, false, cond, not, ◌&&◌, ◌||◌, eqb, leb, ◌⊎◌, List, [], ◌∷◌, sym, refl, ap, ◌∙◌, subst, inl, inr, ⊎_elim, arith}
-use Rattle.std.proofs.lemmas.Bool.{cases_Bool, cond-true, cond-false, and_parts, and_from, or_cases, or_left, or_right, both_ways, leb-true, leb-false, le-leb, eq-eqb}
+use Rattle.std.proofs.Common.{◌≡◌, ℕ, ◌+◌, ◌*◌, ◌<◌, ◌≤◌, Bool, true, false, cond, not, eqb, leb, List, [], ◌∷◌, sym, refl, ap, ◌∙◌, subst, ⊎_elim, arith}
+use Rattle.std.proofs.lemmas.Bool.{cases_Bool, cond-true, cond-false, and_from, or_cases, or_left, or_right, both_ways, leb-false, le-leb, eq-eqb}
 use Rattle.rates.specs.Kinds.{Kind, Laws, exact_size}
 use Rattle.trips.specs.Trips.{LaneMap, BestRate}
 use Rattle.trips.proofs.Shown.{best_rate_unique}
 use Rattle.ring.specs.declared.Side.{Side}
 use Rattle.records.specs.declared.Piece.{Piece}
-use Rattle.pieces.specs.Sides.{Ends, ends_of}
+use Rattle.pieces.specs.Sides.{ends_of}
 use Rattle.pieces.specs.Holding.{piece_at}
 use Rattle.piece_rates.specs.Climbing.{seam_ends}
 use Rattle.piece_rates.specs.Lanes.{piece_lanes}
 use Rattle.piece_rates.specs.Sizes.{largest}
 use Rattle.piece_rates.specs.Touching.{Touches}
 use Rattle.piece_rates.proofs.Sizes.{best_within}
-use Rattle.unfolding.specs.Parts.{Part, kept, lies, both_lie, together, home, child, round_rate, across_rate, split_together, split_across, split_at, round_end, across_end, round_parts, across_parts, child_part, child_rate}
+use Rattle.unfolding.specs.Parts.{Part, kept, lies, both_lie, together, home, child, round_rate, across_rate, split_together, split_across, round_end, round_parts, across_parts, child_part, child_rate}
 use Rattle.unfolding.proofs.Splits.{child_range, seam_touches, touches_child}
 use Rattle.routing.specs.declared.waiting.Parts.{Parts}
-use Rattle.routing.specs.Waiting.{part_of, kept_all}
+use Rattle.routing.specs.Waiting.{kept_all}
 use Rattle.routing.specs.Splits.{Touching, AtSeam, ChildRate}
 
 -- where no child has both terminals, the one that is taken has the first and the other the second

@@ -5,7 +5,7 @@ use Rattle.rates.specs.Kinds.{Kind}
 use Rattle.trips.specs.Trips.{LaneMap}
 use Rattle.ring.specs.declared.Side.{Side}
 use Rattle.records.specs.declared.Piece.{Piece}
-use Rattle.pieces.specs.Sides.{Ends, ends_of}
+use Rattle.pieces.specs.Sides.{ends_of}
 use Rattle.pieces.specs.Holding.{piece_at}
 use Rattle.piece_rates.specs.Sizes.{largest}
 use Rattle.piece_rates.specs.Touching.{Touches}

@@ -1,13 +1,12 @@
 -- A trip while it is unfolded: what is written of it, and what still waits.
 -- Assumes the terms of `unfolding` and `stops`; n is the number of terminals, m the lanes of the plan.
-use Rattle.std.specs.Prelude.{◌≡◌, ℕ, ◌+◌, ◌*◌, ◌<◌, ◌≤◌, List, [], ◌∷◌, ◌++◌, length, take, ◌≢◌}
+use Rattle.std.specs.Prelude.{◌≡◌, ℕ, ◌*◌, ◌≤◌, List, [], ◌∷◌, length, take, ◌≢◌}
 use Rattle.std.specs.List.{AllByRecursion}
 use Rattle.rates.specs.Kinds.{Kind, NoWorse}
 use Rattle.trips.specs.Trips.{LaneMap, Trip, rate, stops, NoneTwice, BestRate}
 use Rattle.trips.specs.Theorems.{final, Linked, rate_along}
-use Rattle.ring.specs.declared.Side.{Side}
 use Rattle.records.specs.declared.Piece.{Piece}
-use Rattle.pieces.specs.Sides.{Ends, ends_of}
+use Rattle.pieces.specs.Sides.{Ends}
 use Rattle.pieces.specs.Holding.{piece_at}
 use Rattle.unfolding.specs.Parts.{Part}
 use Rattle.unfolding.specs.Splitting.{PartStands}

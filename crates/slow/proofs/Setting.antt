@@ -1,12 +1,12 @@
 -- One lane of an area given another rate is the lane map with that lane changed.
 -- Assumes nothing.
-use Rattle.std.proofs.Common.{◌≡◌, ℕ, ◌+◌, ◌*◌, ◌/◌, ◌<◌, ◌≤◌, Bool, true, false, cond, ◌&&◌, eqb, ltb, ◌⊎◌, List, map, length, set, sym, refl, ap, ◌∙◌, subst, inl, inr, ⊎_elim, mul_comm, arith}
+use Rattle.std.proofs.Common.{◌≡◌, ℕ, ◌+◌, ◌*◌, ◌/◌, ◌<◌, true, false, cond, ◌&&◌, eqb, ltb, List, map, length, set, sym, ap, ◌∙◌, subst, ⊎_elim, mul_comm, arith}
 use Rattle.std.proofs.lemmas.Nat.{div-mul-add}
 use Rattle.std.proofs.lemmas.List.{length-map, length-set}
 use Rattle.std.proofs.lemmas.Bool.{cases_eq, cases_Bool, and_parts, and_from, eqb-true, eq-eqb, cond-true, cond-false, ltb-true, lt-ltb, true≢false}
 use Rattle.rates.specs.Kinds.{Kind}
 use Rattle.trips.specs.Trips.{changed}
-use Rattle.slow.specs.Areas.{at, entry, lane_map, LaneOrNone, LaneArea, InArea, LaneSet}
+use Rattle.slow.specs.Areas.{at, entry, lane_map, LaneOrNone, InArea, LaneSet}
 use Rattle.slow.proofs.Places.{set_here, set_others, place_within}
 
 -- different pairs of terminals have different places

@@ -1,14 +1,14 @@
 -- Each sweep makes a row cover trips of one lane more, and a sweep that changes nothing makes it cover all.
 -- Assumes the laws of the kind.
-use Rattle.std.proofs.Common.{◌≡◌, ℕ, suc, ◌+◌, ◌*◌, ◌<◌, ◌≤◌, Bool, true, false, ◌⊎◌, sym, refl, ap, ◌∙◌, subst, inl, inr, ⊎_elim, arith}
+use Rattle.std.proofs.Common.{◌≡◌, ℕ, suc, ◌+◌, ◌*◌, ◌<◌, ◌≤◌, Bool, false, ◌⊎◌, sym, refl, ap, ◌∙◌, subst, inl, inr, ⊎_elim, arith}
 use Rattle.std.proofs.lemmas.Bool.{cases_eq}
 use Rattle.rates.specs.Kinds.{Kind, Laws, NoWorse}
-use Rattle.rates.specs.Order.{le_refl, le_from, le_trans, join_left, join_still}
+use Rattle.rates.specs.Order.{le_from, le_trans, join_left, join_still}
 use Rattle.trips.specs.Trips.{LaneMap, Standing, Trip, rate, lanes, Over}
 use Rattle.trips.specs.Trips.Trip.{stay, go}
 use Rattle.trips.proofs.Walks.{reached_stay}
 use Rattle.trips.proofs.Tables.{row_unbeaten}
-use Rattle.slow.specs.Rows.{lane_size, OfTrip, Row, SweptFrom, Covers, Found, Start}
+use Rattle.slow.specs.Rows.{OfTrip, Row, SweptFrom, Found, Start}
 
 module _ {M : Type 0} (K : Kind M) (X : Laws K) where
   -- a trip taken apart before its last lane

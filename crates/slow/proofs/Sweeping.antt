@@ -1,8 +1,8 @@
 -- Relaxing by the lanes out of one more terminal keeps a row of trips, and uses those lanes.
 -- Assumes the laws of the kind.
-use Rattle.std.proofs.Common.{◌≡◌, ℕ, ◌+◌, ◌*◌, ◌<◌, ◌≤◌, Bool, true, false, ◌⊎◌, sym, refl, ap, ◌∙◌, subst, inl, inr, ⊎_elim, arith}
+use Rattle.std.proofs.Common.{◌≡◌, ℕ, ◌+◌, ◌*◌, ◌<◌, ◌≤◌, Bool, true, false, ◌⊎◌, sym, refl, ap, ◌∙◌, subst, ⊎_elim, arith}
 use Rattle.std.proofs.lemmas.Bool.{cases_eq, both_ways}
-use Rattle.rates.specs.Kinds.{Kind, Laws, NoWorse, exact_size}
+use Rattle.rates.specs.Kinds.{Kind, Laws, NoWorse}
 use Rattle.rates.specs.Many.{better_of}
 use Rattle.rates.specs.Order.{le_refl, le_trans, better_le, le_better_trans, join_left, better_of_first, better_of_second, better_of_either}
 use Rattle.trips.specs.Trips.{LaneMap}

@@ -1,11 +1,11 @@
 -- The place of a terminal among the first stops of an area, and what writing it there leaves.
 -- Assumes nothing.
-use Rattle.std.proofs.Common.{◌≡◌, ℕ, suc, ◌+◌, ◌<◌, ◌≤◌, List, [], ◌∷◌, ◌++◌, length, get_or, take, drop, set, sym, refl, ap, ◌∙◌, subst, arith}
+use Rattle.std.proofs.Common.{◌≡◌, ℕ, ◌+◌, ◌<◌, ◌≤◌, List, [], ◌∷◌, ◌++◌, length, get_or, take, set, sym, refl, ap, ◌∙◌, arith}
 use Rattle.std.proofs.lemmas.List.{length-take-le, get_or-take, take-take, take_more_set, drop-set-lt}
 use Rattle.piece_rates.specs.Climbing.{place}
 use Rattle.piece_rates.proofs.Holding.{place_below, at_place}
 use Rattle.piece_rates.proofs.Places.{place_first, place_absent, place_at_most}
-use Rattle.stops.specs.Passing.{passing, Passed}
+use Rattle.stops.specs.Passing.{Passed}
 
 module _ (xs : List ℕ) (count w : ℕ) (inside : count ≤ length xs) where
   pub found_at : (k : ℕ) → k < count → get_or xs k 0 ≡ w → ((j : ℕ) → j < k → get_or xs j 0 ≡ w → ⊥) → k ≡ place (take count xs) w

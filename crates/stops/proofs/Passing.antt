@@ -1,6 +1,6 @@
 -- Passing one more terminal keeps a trip without a terminal twice, and makes its rate no worse.
 -- Assumes the laws, and that no closed trip earns.
-use Rattle.std.proofs.Common.{◌≡◌, ℕ, zero, suc, ◌+◌, ◌<◌, ◌≤◌, Bool, true, false, cond, eqb, ◌⊎◌, List, [], ◌∷◌, ◌++◌, length, take, sym, refl, ap, ◌∙◌, subst, inl, inr, ⊎_elim}
+use Rattle.std.proofs.Common.{◌≡◌, ℕ, zero, suc, false, eqb, List, [], ◌∷◌, ◌++◌, take, sym, refl, ap, ◌∙◌, subst, inr, ⊎_elim}
 use Rattle.std.proofs.lemmas.Bool.{cases_Bool, cond-true, cond-false, eqb-true, eqb-false, eq-eqb}
 use Rattle.rates.specs.Kinds.{Kind, Laws, NoWorse}
 use Rattle.rates.specs.Order.{le_from, le_trans, join_left, join_right, join_still}
@@ -10,7 +10,7 @@ use Rattle.trips.specs.Theorems.{final, Linked, rate_along}
 use Rattle.trips.proofs.Walks.{Reached, reached_join, closed_reached}
 use Rattle.trips.proofs.Shown.{stops_are_a_trip}
 use Rattle.piece_rates.specs.Climbing.{place}
-use Rattle.stops.specs.Passing.{passing, TripSoFar, LoopsAreCut}
+use Rattle.stops.specs.Passing.{passing, LoopsAreCut}
 
 -- passing at the first stop, and further on
 passing_first : (u w : ℕ) (list : List ℕ) → w ≡ u → passing (u ∷ list) w ≡ u ∷ []

@@ -1,7 +1,7 @@
 -- Two contents with the same kind and the same bytes are one content.
 -- Each field can be got back from its bytes, so the whole content can.
 -- Assumes that each field fits its width.
-use Rattle.std.proofs.Common.{◌≡◌, ℕ, ◌+◌, ◌-◌, ◌*◌, ◌/◌, ◌%◌, ◌^◌, ◌<◌, List, [], ◌∷◌, map, get_or, ℤ, pos, negsuc, sym, refl, ap, ◌∙◌, arith, w32, SFits, to_z}
+use Rattle.std.proofs.Common.{◌≡◌, ℕ, ◌+◌, ◌*◌, ◌/◌, ◌%◌, ◌^◌, ◌<◌, List, [], ◌∷◌, map, get_or, ℤ, pos, negsuc, sym, refl, ap, ◌∙◌, arith, w32, SFits, to_z}
 use Rattle.std.proofs.lemmas.Int.{to_z-of_z}
 use Rattle.tape.specs.declared.kinds.Kind.{Kind}
 use Rattle.tape.specs.declared.contents.Ends.{Ends}

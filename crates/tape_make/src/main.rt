@@ -4,31 +4,23 @@
 
 use std::io;
 use std::io::Write;
+use std::process::ExitCode;
 use tape_text::{MakeFault, make_tape};
 
-// What the text has, or why it has no tape.
-enum Stop {
-    Text(MakeFault),
-    System(io::Error),
-}
-
-impl From<io::Error> for Stop {
-    fn from(e: io::Error) -> Stop {
-        Stop::System(e)
-    }
-}
-
-fn main(rt: HostRuntime) -> Result<(), Stop> {
+fn main(rt: HostRuntime) -> io::Result<ExitCode> {
     let text = io::read_to_string(rt.alloc(), rt.stdin())?;
     match make_tape(rt.alloc(), text.as_str()) {
-        Ok(tape) => Ok(rt.stdout().write_all(tape.as_slice())?),
+        Ok(tape) => {
+            rt.stdout().write_all(tape.as_slice())?;
+            Ok(ExitCode::SUCCESS)
+        }
         Err(MakeFault::BadLine(n)) => {
             eprintln!(rt; "line {n}: not a record")?;
-            Err(Stop::Text(MakeFault::BadLine(n)))
+            Ok(ExitCode::FAILURE)
         }
         Err(MakeFault::NoMemory) => {
             eprintln!(rt; "no memory")?;
-            Err(Stop::Text(MakeFault::NoMemory))
+            Ok(ExitCode::FAILURE)
         }
     }
 }

@@ -1,8 +1,8 @@
 -- Lists of stops: put end to end, over fewer lanes, and closed.
 -- Assumes the laws of the kind.
-use Rattle.std.proofs.Common.{◌≡◌, ℕ, ◌⊎◌, List, [], ◌∷◌, ◌++◌, sym, refl, ap, ◌∙◌, subst, inl, inr, ⊎_elim}
+use Rattle.std.proofs.Common.{◌≡◌, ℕ, List, [], ◌∷◌, ◌++◌, sym, refl, ap, ◌∙◌, subst}
 use Rattle.rates.specs.Kinds.{Kind, Laws, NoWorse}
-use Rattle.trips.specs.Trips.{LaneMap, Standing, Trip, rate, NoEarning, Fewer, Absent, NoneTwice}
+use Rattle.trips.specs.Trips.{LaneMap, Trip, rate, NoEarning, Fewer}
 use Rattle.trips.specs.Theorems.{Linked, rate_along, final}
 use Rattle.trips.proofs.Walks.{closed_no_better}
 use Rattle.trips.proofs.Shown.{stops_are_a_trip}

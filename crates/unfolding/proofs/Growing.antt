@@ -1,6 +1,6 @@
 -- Every part unfolds: the stops that come out, the parts that are met on the way, and that no two of them at one piece share an end.
 -- Assumes the laws of the kind and a plan in order with the best rates within its pieces.
-use Rattle.std.proofs.Common.{◌≡◌, ℕ, zero, suc, ◌+◌, ◌*◌, ◌<◌, ◌≤◌, Bool, true, false, cond, not, ◌⊎◌, List, [], ◌∷◌, ◌++◌, map, length, sym, refl, ap, ◌∙◌, subst, inl, inr, ⊎_elim, append_assoc, arith, length-append}
+use Rattle.std.proofs.Common.{◌≡◌, ℕ, zero, suc, ◌+◌, ◌*◌, ◌<◌, ◌≤◌, Bool, true, false, List, [], ◌∷◌, ◌++◌, map, length, sym, refl, ap, ◌∙◌, subst, inl, inr, ⊎_elim, append_assoc, arith, length-append}
 use Rattle.std.specs.List.{AllByRecursion}
 use Rattle.std.proofs.ByRecursion.{All-append, All-weaker}
 use Rattle.rates.specs.Kinds.{Kind, Laws}
@@ -12,16 +12,16 @@ use Rattle.records.specs.declared.Piece.{Piece}
 use Rattle.records.specs.Few.{listed, Among}
 use Rattle.pieces.specs.Sides.{Ends, ends_of, span}
 use Rattle.pieces.specs.Holding.{piece_at, held}
-use Rattle.pieces.specs.Division.{Division, CutInTwo}
+use Rattle.pieces.specs.Division.{Division}
 use Rattle.piece_rates.specs.Lanes.{piece_lanes}
 use Rattle.unfolding.specs.Parts.{Part, part_rate, child, split, leaf_stops}
-use Rattle.unfolding.specs.Splitting.{Chain, Leaf, Cut, Rated, PartStands, ChildPart, SplitStands, TripAlong}
+use Rattle.unfolding.specs.Splitting.{Chain, Leaf, Cut, Rated, PartStands, ChildPart, TripAlong}
 use Rattle.unfolding.specs.Turns.{Unfolds}
-use Rattle.unfolding.specs.Turns.Unfolds.{done, empty, leaf, cut}
+use Rattle.unfolding.specs.Turns.Unfolds.{leaf, cut}
 use Rattle.unfolding.proofs.Along.{final_append, linked_append, along_append, linked_fewer}
 use Rattle.unfolding.proofs.LeafStops.{leaf_along}
 use Rattle.unfolding.proofs.Splits.{split_stands}
-use Rattle.unfolding.proofs.Apart.{EndsDiffer, Clear, EndsApart, apart_append, all_both, EndsAmong}
+use Rattle.unfolding.proofs.Apart.{Clear, EndsApart, apart_append, all_both, EndsAmong}
 use Rattle.unfolding.proofs.Rounds.{Separate, Pairwise, child_fewer, split_separate, split_known}
 
 final_among : (u : ℕ) (list : List ℕ) → Among (final u list) (u ∷ list)

@@ -1,13 +1,12 @@
 -- Within one triangle the lane, or the two lanes by the third corner, have the best rate.
 -- Assumes the laws of the kind and a plan in order with the best rates within its pieces.
-use Rattle.std.proofs.Common.{◌≡◌, ℕ, ◌+◌, ◌*◌, ◌<◌, Bool, true, false, cond, eqb, ◌⊎◌, List, [], ◌∷◌, sym, refl, ap, ◌∙◌, subst, inl, inr, ⊎_elim}
+use Rattle.std.proofs.Common.{◌≡◌, ℕ, ◌+◌, cond, eqb, List, [], ◌∷◌, sym, refl, ap, ◌∙◌, subst}
 use mathlib.Core.Path.{fun_ext}
 use Rattle.std.proofs.lemmas.Bool.{cond-true, cond-false, cond_both, ne_eqb}
 use Rattle.rates.specs.Kinds.{Kind, Laws}
 use Rattle.rates.specs.Many.{better_of}
 use Rattle.rates.specs.Order.{join_still}
-use Rattle.trips.specs.Trips.{LaneMap, BestRate, Over}
-use Rattle.trips.specs.Theorems.{Linked, rate_along, final}
+use Rattle.trips.specs.Trips.{LaneMap, BestRate}
 use Rattle.trips.proofs.Shown.{best_rate_unique, best_rate_exists}
 use Rattle.ring.specs.declared.Side.{Side}
 use Rattle.records.specs.declared.Piece.{Piece}
@@ -15,13 +14,12 @@ use Rattle.pieces.specs.Sides.{Ends, ends_of}
 use Rattle.pieces.specs.Holding.{piece_at}
 use Rattle.piece_rates.specs.Lanes.{piece_lanes}
 use Rattle.piece_rates.specs.Triangles.{third_corner, triangle_entry}
-use Rattle.piece_rates.specs.Leaves.{leaf_lanes, LeafStands}
-use Rattle.piece_rates.specs.Changes.{InOrder}
+use Rattle.piece_rates.specs.Leaves.{LeafStands}
 use Rattle.piece_rates.proofs.Leaves.{leaf_held, three}
 use Rattle.piece_rates.proofs.Sizes.{piece_fewer, piece_no_earning}
 use Rattle.piece_rates.proofs.Triangles.{triangle_entries_best}
 use Rattle.unfolding.specs.Parts.{Part, part_rate, triangle_stops, leaf_stops}
-use Rattle.unfolding.specs.Splitting.{Leaf, Rated, PartStands, TripAlong, BestWithin, BestWithinExists, LeafStopsAreBest}
+use Rattle.unfolding.specs.Splitting.{Leaf, Rated, PartStands, TripAlong, BestWithinExists, LeafStopsAreBest}
 use Rattle.unfolding.proofs.Splits.{left_stands, right_stands}
 use Rattle.unfolding.proofs.Along.{linked_fewer}
 

@@ -1,11 +1,11 @@
 -- What the parts of one split have to do with one another: those of the same child share no terminal.
 -- Assumes the laws of the kind and a plan in order with the best rates within its pieces.
-use Rattle.std.proofs.Common.{◌≡◌, ℕ, ◌+◌, ◌*◌, ◌<◌, ◌≤◌, Bool, true, false, cond, not, ◌&&◌, ◌||◌, eqb, leb, ◌⊎◌, List, [], ◌∷◌, ◌++◌, sym, refl, ap, ◌∙◌, subst, inl, inr, ⊎_elim, arith}
+use Rattle.std.proofs.Common.{◌≡◌, ℕ, ◌+◌, ◌*◌, ◌<◌, Bool, true, false, not, eqb, leb, ◌⊎◌, List, [], ◌∷◌, ◌++◌, sym, refl, ap, ◌∙◌, subst, inl, inr, ⊎_elim, arith}
 use Rattle.std.specs.List.{AllByRecursion}
 use Rattle.std.proofs.lemmas.Bool.{and_parts, or_cases, leb-true, cond_both}
 use Rattle.rates.specs.Kinds.{Kind, Laws, NoWorse}
 use Rattle.rates.specs.Order.{le_from, le_trans, join_right, join_still, left_commutative, not_both}
-use Rattle.trips.specs.Trips.{LaneMap, Trip, rate, NoEarning, Fewer}
+use Rattle.trips.specs.Trips.{LaneMap, NoEarning, Fewer}
 use Rattle.trips.specs.Theorems.{Linked, rate_along, final}
 use Rattle.trips.proofs.Walks.{Reached, Best, best_of_rate, unbeaten_reached, reached_join, reached_fewer, closed_reached}
 use Rattle.trips.proofs.Shown.{stops_are_a_trip}
@@ -17,8 +17,8 @@ use Rattle.pieces.specs.Holding.{piece_at}
 use Rattle.piece_rates.specs.Lanes.{piece_lanes}
 use Rattle.piece_rates.specs.Climbing.{seam_ends}
 use Rattle.piece_rates.specs.Touching.{Touches}
-use Rattle.unfolding.specs.Parts.{Part, kept, lies, together, home, child, part_rate, child_part, child_rate, round_rate, round_parts, round_end, split_together, across_parts, across_end, split_across, split_at, split}
-use Rattle.unfolding.specs.Splitting.{Cut, Rated, TripAlong, PartStands}
+use Rattle.unfolding.specs.Parts.{Part, kept, lies, together, home, child, part_rate, child_part, child_rate, round_rate, round_parts, round_end, split_together, across_parts, across_end, split_across, split_at}
+use Rattle.unfolding.specs.Splitting.{Cut, Rated, TripAlong}
 use Rattle.unfolding.proofs.Along.{linked_left, linked_right, along_append, final_append}
 use Rattle.unfolding.proofs.Apart.{EndsAmong}
 use Rattle.unfolding.proofs.Splits.{lanes_earn_not, shape, child_range, seam_touches, touches_child, meeting, in_one, in_two}

@@ -2,19 +2,19 @@
 -- Assumes the laws of the kind and a plan in order with the best rates within its pieces.
 use Rattle.std.proofs.Common.{◌≡◌, ℕ, suc, ◌+◌, ◌*◌, ◌<◌, ◌≤◌, Bool, true, false, cond, not, ◌&&◌, ◌||◌, eqb, leb, ◌⊎◌, List, [], ◌∷◌, map, length, sym, refl, ap, ◌∙◌, subst, inl, inr, ⊎_elim, arith}
 use Rattle.std.specs.List.{AllByRecursion}
-use Rattle.std.proofs.lemmas.Bool.{and_parts, and_from, or_cases, or_left, or_right, leb-true, le-leb, cases_Bool, cases_lt, cond-true, cond-false, cond_both, eqb-true, eqb-false, true≢false, false≢true}
-use Rattle.rates.specs.Kinds.{Kind, Laws, NoWorse}
+use Rattle.std.proofs.lemmas.Bool.{and_parts, and_from, or_cases, or_left, or_right, leb-true, le-leb, cases_lt, cond-true, cond-false, cond_both, eqb-true, eqb-false, true≢false, false≢true}
+use Rattle.rates.specs.Kinds.{Kind, Laws}
 use Rattle.rates.specs.Many.{better_of, joined_all}
 use Rattle.rates.specs.Order.{same, join_still, join_none}
-use Rattle.trips.specs.Trips.{LaneMap, Trip, rate, NoEarning, BestRate}
+use Rattle.trips.specs.Trips.{LaneMap, rate, NoEarning, BestRate}
 use Rattle.trips.specs.Trips.Trip.{stay}
 use Rattle.trips.specs.Climbs.{Meeting}
 use Rattle.trips.proofs.Walks.{Best, best_of_rate, closed_reached}
 use Rattle.ring.specs.declared.Side.{Side}
 use Rattle.records.specs.declared.Piece.{Piece}
-use Rattle.pieces.specs.Sides.{Ends, ends_of, span, Filled}
+use Rattle.pieces.specs.Sides.{Ends, ends_of, Filled}
 use Rattle.pieces.specs.Holding.{piece_at}
-use Rattle.pieces.specs.Division.{Division, CutInTwo}
+use Rattle.pieces.specs.Division.{Division}
 use Rattle.piece_rates.specs.Lanes.{piece_lanes}
 use Rattle.piece_rates.specs.Climbing.{CutShape, seam_ends}
 use Rattle.piece_rates.specs.Touching.{Touches}
@@ -22,9 +22,9 @@ use Rattle.piece_rates.proofs.Cuts.{cuts_have_shape}
 use Rattle.piece_rates.proofs.Parents.{meets}
 use Rattle.piece_rates.proofs.Sizes.{piece_no_earning}
 use Rattle.piece_rates.proofs.Touching.{seam_touches_first, seam_touches_second, inside_touches_first, outside_touches_second}
-use Rattle.unfolding.specs.Parts.{Part, kept, lies, both_lie, together, home, child, part_rate, child_part, child_rate, round_rate, round_parts, round_end, split_together, across_rate, across_parts, across_end, split_across, split_at, split}
-use Rattle.unfolding.specs.Splitting.{Chain, Cut, BestWithin, Rated, PartStands, ChildPart, SplitStands, SplitKeepsTheRate}
-use Rattle.unfolding.proofs.Ways.{picked, together_best, across_best}
+use Rattle.unfolding.specs.Parts.{Part, kept, lies, together, home, child, part_rate, child_part, child_rate, round_rate, round_parts, round_end, split_together, across_rate, across_parts, across_end, split_across, split_at, split}
+use Rattle.unfolding.specs.Splitting.{Chain, Cut, Rated, PartStands, ChildPart, SplitStands, SplitKeepsTheRate}
+use Rattle.unfolding.proofs.Ways.{together_best, across_best}
 
 -- the child that home names: a and b say whether the first child has the two terminals, a' and b' whether the second has
 home_together : (a b a' b' : Bool) → ((a && b) || (a' && b')) ≡ true

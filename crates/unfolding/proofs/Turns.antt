@@ -1,7 +1,6 @@
 -- Parts unfold in one way and in few turns.
 -- Assumes the laws of the kind where a plan in order is named.
-use Rattle.std.proofs.Common.{◌≡◌, ℕ, zero, suc, ◌+◌, ◌-◌, ◌*◌, ◌<◌, ◌≤◌, ◌⊎◌, List, [], ◌∷◌, ◌++◌, length, sym, refl, ap, ◌∙◌, subst, inl, inr, ⊎_elim, append-nil, arith, length-take}
-use Rattle.std.specs.List.{AllByRecursion}
+use Rattle.std.proofs.Common.{◌≡◌, ℕ, ◌+◌, ◌-◌, ◌*◌, ◌<◌, ◌≤◌, List, [], ◌∷◌, ◌++◌, length, sym, refl, ap, ◌∙◌, subst, inl, inr, append-nil, arith, length-take}
 use Rattle.std.proofs.ByRecursion.{All-weaker}
 use Rattle.rates.specs.Kinds.{Kind, Laws}
 use Rattle.trips.specs.Trips.{LaneMap}
@@ -9,11 +8,10 @@ use Rattle.ring.specs.declared.Side.{Side}
 use Rattle.records.specs.declared.Piece.{Piece}
 use Rattle.records.specs.declared.Few.{Few}
 use Rattle.records.specs.Few.{listed, Pinned}
-use Rattle.pieces.specs.Sides.{Ends, ends_of, span}
+use Rattle.pieces.specs.Sides.{Ends, ends_of}
 use Rattle.pieces.specs.Holding.{piece_at}
-use Rattle.piece_rates.specs.Lanes.{piece_lanes}
 use Rattle.unfolding.specs.Parts.{Part, part_rate, split, leaf_stops}
-use Rattle.unfolding.specs.Splitting.{Leaf, Cut, Rated, PartStands, TripAlong}
+use Rattle.unfolding.specs.Splitting.{Leaf, Cut, Rated, PartStands}
 use Rattle.unfolding.specs.Turns.{Unfolds, UnfoldsToBest, PartsUnfold, FewParts, OneTurn, TurnByTurn}
 use Rattle.unfolding.specs.Turns.Unfolds.{done, empty, leaf, cut}
 use Rattle.unfolding.proofs.LeafStops.{along_book}

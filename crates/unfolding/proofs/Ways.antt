@@ -1,10 +1,10 @@
 -- The best rate over two parts that meet in a seam is that of one of the ways that a split chooses from.
 -- Assumes the laws of the kind, two parts that meet, and that no closed trip earns.
-use Rattle.std.proofs.Common.{◌≡◌, ℕ, Bool, true, false, cond, not, ◌⊎◌, sym, refl, ap, ◌∙◌, subst, inl, inr, ⊎_elim}
+use Rattle.std.proofs.Common.{◌≡◌, ℕ, Bool, true, false, cond, not, sym, refl, subst, ⊎_elim}
 use Rattle.rates.specs.Kinds.{Kind, Laws, NoWorse}
 use Rattle.rates.specs.Many.{better_of}
-use Rattle.rates.specs.Order.{le_refl, le_from, le_trans, join_right, same, better_of_first, better_of_second, better_of_either}
-use Rattle.trips.specs.Trips.{LaneMap, NoEarning, BestRate}
+use Rattle.rates.specs.Order.{le_from, le_trans, join_right, same, better_of_first, better_of_second, better_of_either}
+use Rattle.trips.specs.Trips.{LaneMap, NoEarning}
 use Rattle.trips.specs.Climbs.{Meeting}
 use Rattle.trips.proofs.Walks.{Reached, Best, unbeaten_reached, reached_join, reached_better, reached_fewer}
 use Rattle.trips.proofs.Climb.{own_best, other_best}

@@ -3,7 +3,7 @@
 --
 -- A part asks for a best trip between two terminals over the lanes of one piece. Which trip that is, is told by a table of
 -- rates `best p u v`: the best rate from u to v over the lanes of the piece p.
-use Rattle.std.specs.Prelude.{◌≡◌, ℕ, ◌+◌, Bool, true, false, cond, not, ◌&&◌, ◌||◌, List, [], ◌∷◌, ◌==◌, nat_le}
+use Rattle.std.specs.Prelude.{ℕ, ◌+◌, Bool, true, false, cond, not, ◌&&◌, ◌||◌, List, [], ◌∷◌, ◌==◌, nat_le}
 use Rattle.rates.specs.Kinds.{Kind}
 use Rattle.trips.specs.Trips.{LaneMap}
 use Rattle.records.specs.declared.Piece.{Piece}

@@ -1,6 +1,6 @@
 -- A part split keeps its rate: what its parts are.
 -- Assumes the terms of `Parts`; n is the number of terminals, m the book's lanes, e the ends of the sides, ps the piece records.
-use Rattle.std.specs.Prelude.{◌≡◌, ℕ, ◌+◌, ◌*◌, ◌<◌, ◌≤◌, Bool, ◌⊎◌, List, [], ◌∷◌, map, length}
+use Rattle.std.specs.Prelude.{◌≡◌, ℕ, ◌+◌, ◌*◌, ◌<◌, ◌≤◌, Bool, List, [], ◌∷◌, map, length}
 use Rattle.std.specs.List.{AllByRecursion}
 use Rattle.rates.specs.Kinds.{Kind}
 use Rattle.rates.specs.Many.{joined_all}

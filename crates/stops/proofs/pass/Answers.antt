@@ -1,4 +1,4 @@
-use Rattle.std.proofs.Common.{◌≡◌, ℕ, min, length, take, sym, ap, ◌∙◌, subst, arith}
+use Rattle.std.proofs.Common.{ℕ, min, length, take, ap, ◌∙◌, arith}
 use Rattle.piece_rates.specs.Climbing.{place}
 use Rattle.stops.proofs.Finding.{passed_full, passed_on}
 use Rattle.stops.proofs.pass.Goals as goal

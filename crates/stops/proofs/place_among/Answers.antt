@@ -1,4 +1,4 @@
-use Rattle.std.proofs.Common.{◌≡◌, ℕ, ◌<◌, get_or, subst, arith}
+use Rattle.std.proofs.Common.{arith}
 use Rattle.stops.proofs.Finding.{found_at, not_found}
 use Rattle.stops.proofs.place_among.Goals as goal
 

@@ -1,4 +1,4 @@
-use Rattle.std.proofs.Common.{map, length, arith}
+use Rattle.std.proofs.Common.{arith}
 use Rattle.std.proofs.lemmas.List.{length-map}
 use Rattle.offers.proofs.Pricing.{lane_rates_more, first_no_lane}
 use Rattle.offers.proofs.offer.first_no_lane_rate.Goals as goal

@@ -1,4 +1,4 @@
-use Rattle.std.proofs.Common.{◌+◌, ◌-◌, ◌*◌, length, take, drop, sym, ◌∙◌, arith, length-drop, length-take}
+use Rattle.std.proofs.Common.{◌+◌, ◌-◌, ◌*◌, drop, arith, length-drop, length-take}
 use Rattle.rewriting.proofs.Steps.{put_there, put_only}
 use Rattle.rewriting.proofs.one.put_sheet.Goals as goal
 

@@ -1,5 +1,5 @@
-use Rattle.std.proofs.Common.{◌≡◌, ℕ, ◌+◌, ◌-◌, ◌*◌, ◌<◌, ◌≤◌, ltb, map, length, take, drop, sym, refl, ap, ◌∙◌, subst, ⊎_elim, arith, length-drop, length-take}
-use Rattle.std.proofs.lemmas.Bool.{or_cases, or_parts, ltb-true, ltb-false}
+use Rattle.std.proofs.Common.{◌+◌, ◌-◌, ◌*◌, ltb, map, length, drop, sym, refl, ap, ◌∙◌, subst, ⊎_elim, arith, length-take}
+use Rattle.std.proofs.lemmas.Bool.{or_cases, ltb-true}
 use Rattle.std.proofs.lemmas.List.{length-map}
 use Rattle.records.specs.declared.Piece.{Piece}
 use Rattle.pieces.specs.Sides.{ends_of}

@@ -1,8 +1,6 @@
-use Rattle.std.proofs.Common.{◌≡◌, ℕ, ◌+◌, ◌-◌, ◌*◌, ◌<◌, ◌≤◌, map, length, take, drop}
+use Rattle.std.proofs.Common.{ℕ, ◌+◌, ◌-◌, ◌*◌, ◌<◌, map}
 use Rattle.trips.specs.Trips.{LaneMap}
-use Rattle.records.specs.Few.{Among}
 use Rattle.pieces.specs.Sides.{ends_of}
-use Rattle.pieces.specs.Holders.{way_up}
 use Rattle.piece_rates.specs.Changes.{PlanStands, OffWayShown}
 use Rattle.rewriting.specs.Ways.{UnderWay}
 use Rattle.rewriting.proofs.up.rewrite_up.Given as goal

@@ -1,4 +1,4 @@
-use Rattle.std.proofs.Common.{ℕ, ◌+◌, ◌*◌, ◌<◌, map, sym, subst}
+use Rattle.std.proofs.Common.{ℕ, ◌+◌, ◌*◌, ◌<◌, map, subst}
 use Rattle.trips.specs.Trips.{BestRate}
 use Rattle.pieces.specs.Sides.{ends_of}
 use Rattle.pieces.specs.Holding.{piece_at}

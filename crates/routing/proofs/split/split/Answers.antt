@@ -1,8 +1,6 @@
-use Rattle.std.proofs.Common.{◌≡◌, Bool, cond, not, [], map, sym, ap, ◌∙◌, subst}
+use Rattle.std.proofs.Common.{Bool, not, map, sym, ap, ◌∙◌}
 use Rattle.std.proofs.lemmas.Bool.{cond-true, cond-false, and_parts}
 use Rattle.unfolding.specs.Parts.{lies, together, home, split_together, split_across}
-use Rattle.routing.specs.Waiting.{kept_all}
-use Rattle.routing.specs.Splits.{Touching}
 use Rattle.routing.proofs.Splitting.{home_has_both, home_has_first, lies_touches}
 use Rattle.routing.proofs.split.split.Goals as goal
 

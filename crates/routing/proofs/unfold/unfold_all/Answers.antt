@@ -1,7 +1,7 @@
-use Rattle.std.proofs.Common.{◌≡◌, ℕ, ◌+◌, ◌-◌, ◌*◌, ◌<◌, ◌≤◌, min, [], ◌∷◌, map, length, sym, refl, ap, ◌∙◌, subst, inl, inr, arith}
+use Rattle.std.proofs.Common.{◌≡◌, ℕ, ◌+◌, ◌-◌, ◌*◌, min, map, length, refl, ap, ◌∙◌, subst, inl, inr, arith}
 use Rattle.pieces.specs.Sides.{ends_of}
 use Rattle.unfolding.specs.Splitting.{Rated}
-use Rattle.routing.specs.Waiting.{part_of, waiting}
+use Rattle.routing.specs.Waiting.{waiting}
 use Rattle.routing.specs.Turns.{UnderWay}
 use Rattle.routing.proofs.Putting.{taken_off}
 use Rattle.routing.proofs.Running.{set_out, come_to_end}

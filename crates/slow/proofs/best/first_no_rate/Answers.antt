@@ -1,4 +1,4 @@
-use Rattle.std.proofs.Common.{map, sym, subst, arith, below_more}
+use Rattle.std.proofs.Common.{map, sym, subst, below_more}
 use Rattle.std.proofs.lemmas.List.{length-map}
 use Rattle.std.proofs.lemmas.Bool.{both_ways}
 use Rattle.slow.specs.Areas.{at, LaneOrNone}

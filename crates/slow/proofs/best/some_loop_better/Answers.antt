@@ -1,4 +1,4 @@
-use Rattle.std.proofs.Common.{true, refl, arith}
+use Rattle.std.proofs.Common.{refl, arith}
 use Rattle.slow.proofs.Places.{place_within}
 use Rattle.slow.proofs.Filling.{loop_found, no_loop_more}
 use Rattle.slow.proofs.best.some_loop_better.Goals as goal

@@ -1,1 +1,0 @@
-use Rattle.tape_text.proofs.making.append.Goals as goal
