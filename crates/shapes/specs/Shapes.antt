@@ -29,8 +29,8 @@ pub record Drawn (shape : Shape) (last : Terminal) (links : List Link) : Type 0 
   pub shaped : Shaped shape tree 0 last
   pub sides : map ends_of (take (2 * last - 1) links) ≡ take (length links) (preorder tree 0 last)
 
-abbrev pub link : Terminal → Terminal → Link
-link a b = record { from = a; to = b }
+abbrev pub link_between : Terminal → Terminal → Link
+link_between a b = record { from = a; to = b }
 
 -- A number below 65536 that looks random.
 abbrev pub mixed_of : Terminal → Terminal → ℕ

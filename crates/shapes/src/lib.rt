@@ -3,7 +3,7 @@
 
 ghost use Rattle.std.specs.Prelude.{◌≡◌, ◌+◌, ◌-◌, ◌*◌, ◌<◌, ◌≤◌, slice_set};
 ghost use Rattle.ring.specs.Linked.{link_at};
-ghost use Rattle.shapes.specs.Shapes.{Drawn, link, mixed_of, third_of, ThirdBy};
+ghost use Rattle.shapes.specs.Shapes.{Drawn, link_between, mixed_of, third_of, ThirdBy};
 
 use ring::Link;
 
@@ -40,7 +40,7 @@ fn third(shape: Shape, low: u16, high: u16) -> u16
     requires { low + 1 < high }
     ensures between { (low < result) × (result < high) }
     ensures lies { ThirdBy shape low result high }
-    ensures is { result ≡ third_of shape low high }
+    ensures chosen { result ≡ third_of shape low high }
 {
     match shape {
         Shape::Fan => high - 1,
@@ -71,7 +71,7 @@ fn put_children(shape: Shape, links: &mut [Link], i: usize)
         let at = link_at links.old i in
         let c = third_of shape at.from at.to in
         at.from + 1 < at.to
-        → links.new ≡ slice_set (slice_set links.old (i + 1) (link at.from c)) (i + 2 * (c - at.from)) (link c at.to)
+        → links.new ≡ slice_set (slice_set links.old (i + 1) (link_between at.from c)) (i + 2 * (c - at.from)) (link_between c at.to)
     }
 {
     if i >= links.len() {
