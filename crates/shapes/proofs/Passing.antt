@@ -5,14 +5,13 @@ use Rattle.std.proofs.Common.{◌≡◌, ◌≢◌, ℕ, zero, suc, ◌+◌, ◌
 use lib.ListN.{length-map}
 use Rattle.std.proofs.lemmas.List.{get_or-map, get_or-take, ext_get_or}
 use Rattle.std.proofs.lemmas.Bool.{cases_lt, cases_eq}
-use Rattle.trips.specs.Links.{Ends}
 use Rattle.triangulation.specs.Trees.{Tree, leaf, node, Spans, Stands, here, left, right, side, preorder}
-use Rattle.triangulation.proofs.Places.{Parent, Standing, standing, spans_rises, length_preorder, stands_one, stands_parent, stands_side, stands_left, stands_right, stands_spans, stands_within}
+use Rattle.triangulation.proofs.Places.{Parent, standing, spans_rises, length_preorder, stands_one, stands_parent, stands_side, stands_left, stands_right, stands_spans, stands_within}
 use Rattle.ring.specs.declared.Link.{Link}
 use Rattle.ring.specs.Linked.{ends_of, link_at}
 use Rattle.shapes.specs.declared.Shape.{Shape}
 use Rattle.shapes.specs.declared.Shape.TheVariants.{Fan, Zigzag, Balanced, Scattered, Bare}
-use Rattle.shapes.specs.Shapes.{ThirdBy, Shaped, Drawn, link_between, mixed_of, third_of}
+use Rattle.shapes.specs.Shapes.{ThirdBy, Shaped, Drawn, link_between, third_of}
 
 -- The chosen third terminal lies where the shape says.
 pub third_lies : (shape : Shape) (a b : ℕ) → a + 1 < b → ThirdBy shape a (third_of shape a b) b
@@ -239,7 +238,7 @@ module _ (shape : Shape) where
     pub passed_more : (xs ys : List Link) (i : ℕ) → Passed i xs → i < length xs
         → ((link_at xs i).to ≤ (link_at xs i).from + 1 → ys ≡ xs)
         → ((link_at xs i).from + 1 < (link_at xs i).to
-          → ys ≡ both_put xs i (third_of shape (link_at xs i).from (link_at xs i).to))
+        → ys ≡ both_put xs i (third_of shape (link_at xs i).from (link_at xs i).to))
         → Passed (i + 1) ys
     passed_more xs ys i P within unit split =
         ⊎_elim

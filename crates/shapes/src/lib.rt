@@ -67,12 +67,10 @@ fn put(links: &mut [Link], i: usize, link: Link)
 // Writes the two sides of the triangle on the side at `i`: the left one at the next place, the right one past the left one's.
 fn put_children(shape: Shape, links: &mut [Link], i: usize)
     ensures unit { let at = link_at links.old i in at.to ≤ at.from + 1 → links.new ≡ links.old }
-    ensures split {
-        let at = link_at links.old i in
+    ensures split { let at = link_at links.old i in
         let c = third_of shape at.from at.to in
         at.from + 1 < at.to
-        → links.new ≡ slice_set (slice_set links.old (i + 1) (link_between at.from c)) (i + 2 * (c - at.from)) (link_between c at.to)
-    }
+        → links.new ≡ slice_set (slice_set links.old (i + 1) (link_between at.from c)) (i + 2 * (c - at.from)) (link_between c at.to) }
 {
     if i >= links.len() {
         return;

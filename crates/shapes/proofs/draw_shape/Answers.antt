@@ -1,5 +1,4 @@
-use Rattle.std.proofs.Common.{List, sym, subst, arith}
-use Rattle.ring.specs.declared.Link.{Link}
+use Rattle.std.proofs.Common.{sym, subst, arith}
 use Rattle.shapes.proofs.Passing.{Passed, passed_none, passed_more, passed_all}
 use Rattle.shapes.proofs.draw_shape.Goals as goal
 
