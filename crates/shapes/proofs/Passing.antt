@@ -14,7 +14,7 @@ use Rattle.shapes.specs.declared.Shape.TheVariants.{Fan, Zigzag, Balanced, Scatt
 use Rattle.shapes.specs.Shapes.{ThirdBy, Shaped, Drawn, link_between, third_of}
 
 -- The chosen third terminal lies where the shape says.
-pub third_lies : (shape : Shape) (a b : ℕ) → a + 1 < b → ThirdBy shape a (third_of shape a b) b
+third_lies : (shape : Shape) (a b : ℕ) → a + 1 < b → ThirdBy shape a (third_of shape a b) b
 third_lies Fan a b h = search rules
 third_lies Zigzag a b h = search rules
 third_lies Balanced a b h = search rules
@@ -22,7 +22,7 @@ third_lies Scattered a b h = search rules
 third_lies Bare a b h = search rules
 
 -- It lies between the ends.
-pub third_between : (shape : Shape) (a b : ℕ) → a + 1 < b → (a < third_of shape a b) × (third_of shape a b < b)
+third_between : (shape : Shape) (a b : ℕ) → a + 1 < b → (a < third_of shape a b) × (third_of shape a b < b)
 third_between Fan a b h = search rules
 third_between Zigzag a b h = search rules
 third_between Balanced a b h = search rules
@@ -43,10 +43,12 @@ module _ (shape : Shape) where
   Chosen leaf a b = b ≡ a + 1
   Chosen (node c l r) a b = (c ≡ third_of shape a b) × Chosen l a c × Chosen r c b
 
+  -- So it triangulates its polygon.
   chosen_spans : (t : Tree) (a b : ℕ) → Chosen t a b → Spans t a b
   chosen_spans leaf a b e = e
   chosen_spans (node c l r) a b f = (chosen_spans l a c f.1, chosen_spans r c b f.2)
 
+  -- And its triangles lie as the shape says.
   chosen_shaped : (t : Tree) (a b : ℕ) → Chosen t a b → Shaped shape t a b
   chosen_shaped leaf a b e = tt
   chosen_shaped (node c l r) a b f =
@@ -143,7 +145,7 @@ module _ (shape : Shape) where
           known
 
       -- A unit side has no children.
-      pub passed_unit : (link_at xs i).to ≤ (link_at xs i).from + 1 → Passed (i + 1) xs
+      passed_unit : (link_at xs i).to ≤ (link_at xs i).from + 1 → Passed (i + 1) xs
       passed_unit short t f u x y k w h known =
           let s = chosen_spans t 0 last f in
           ⊎_elim
@@ -159,6 +161,7 @@ module _ (shape : Shape) where
           (newly_known t f u x y k w h known)
 
       module _ (c : ℕ) (is : c ≡ third_of shape (link_at xs i).from (link_at xs i).to) (long : (link_at xs i).from + 1 < (link_at xs i).to) where
+        -- The chosen terminal lies above the low end.
         above : (link_at xs i).from < c
         above = let b = third_between shape (link_at xs i).from (link_at xs i).to long in omega arith
 
@@ -223,9 +226,10 @@ module _ (shape : Shape) where
             get_or-set_other (left_put xs i c) (i + 2 * (c - (link_at xs i).from)) k (link_between c (link_at xs i).to) (link_between 0 0) g
             ∙ (get_or-set_other xs (i + 1) k (link_between (link_at xs i).from c) (link_between 0 0) e ∙ P t f u x y k w h (known_here t s u x y k i w (omega arith)))
 
-        pub passed_node : Passed (i + 1) (both_put xs i c)
+        -- So a turn at a longer side passes it.
+        passed_node : Passed (i + 1) (both_put xs i c)
         passed_node t f u x y k w g known =
-            let h : k < length xs = simp (length-set) at g in
+            let h : k < length xs = simp length-set at g in
             ⊎_elim
             (λ (near : i + 1 < 2 * last).
             let z = standing t 0 last 0 i (chosen_spans t 0 last f) (omega arith) (omega arith) in
@@ -256,6 +260,7 @@ module _ (shape : Shape) where
           let s = chosen_spans t 0 last f in
           ap ends_of (P t f u x y k w h (known_here t s u x y k i w (omega arith))) ∙ sym (stands_side w s k (side 0 0) (add-zero k))
 
+      -- They are the sides of this tree.
       drawn : Drawn shape last xs
       drawn =
           let s = chosen_spans t 0 last f in
@@ -273,5 +278,6 @@ module _ (shape : Shape) where
                 ∙ (held w.tree w.low w.high k w.stands (omega arith) ∙ sym (get_or-take (length xs) (preorder t 0 last) k (side 0 0) (omega arith)))));
           }
 
+    -- So the area is drawn.
     pub passed_all : (xs : List Link) (i : ℕ) → length xs ≤ i → Passed i xs → 1 ≤ last → Drawn shape last xs
     passed_all xs i end P some = let t = grown last 0 last (omega arith) (omega arith) in drawn xs i end P t.0 t.1

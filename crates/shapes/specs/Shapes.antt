@@ -21,22 +21,23 @@ abbrev pub Shaped : Shape → Tree → Terminal → Terminal → Type 0
 Shaped shape leaf a b = Unit {0}
 Shaped shape (node c l r) a b = ThirdBy shape a c b × Shaped shape l a c × Shaped shape r c b
 
--- As far as both go, the links are the sides, in preorder, of a triangulation of the ring from 0 to last whose triangles lie
--- as the shape says. It has 2 last - 1 sides.
+-- The links are the sides, in preorder, of a triangulation of the ring from 0 to last whose triangles lie as the shape says.
+-- There are 2 last - 1 of them; a shorter list has the first of them, a longer one begins with them all.
 pub record Drawn (shape : Shape) (last : Terminal) (links : List Link) : Type 0 where
   pub tree : Tree
   pub spans : Spans tree 0 last
   pub shaped : Shaped shape tree 0 last
   pub sides : map ends_of (take (2 * last - 1) links) ≡ take (length links) (preorder tree 0 last)
 
+-- The link from a to b.
 abbrev pub link_between : Terminal → Terminal → Link
 link_between a b = record { from = a; to = b }
 
--- A number below 65536 that looks random.
+-- A number below 65536 that looks random, for a scattered third terminal.
 abbrev pub mixed_of : Terminal → Terminal → ℕ
 mixed_of a b = ((a * 65536 + b) * 6364136223846793005 + 1442695040888963407) % 2 ^ 64 / 2 ^ 40 % 65536
 
--- The third terminal that is chosen.
+-- The third terminal that is chosen for the side {a, b}: it lies as ThirdBy says, and each side has one.
 abbrev pub third_of : Shape → Terminal → Terminal → Terminal
 third_of Fan a b = b - 1
 third_of Zigzag a b = if a % 2 == b % 2 then a + 1 else b - 1

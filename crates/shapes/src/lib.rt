@@ -69,8 +69,9 @@ fn put_children(shape: Shape, links: &mut [Link], i: usize)
     ensures unit { let at = link_at links.old i in at.to ≤ at.from + 1 → links.new ≡ links.old }
     ensures split { let at = link_at links.old i in
         let c = third_of shape at.from at.to in
+        let left_drawn = slice_set links.old (i + 1) (link_between at.from c) in
         at.from + 1 < at.to
-        → links.new ≡ slice_set (slice_set links.old (i + 1) (link_between at.from c)) (i + 2 * (c - at.from)) (link_between c at.to) }
+        → links.new ≡ slice_set left_drawn (i + 2 * (c - at.from)) (link_between c at.to) }
 {
     if i >= links.len() {
         return;
@@ -88,7 +89,8 @@ fn put_children(shape: Shape, links: &mut [Link], i: usize)
     }
 }
 
-// Fills the area with the sides of a ring whose last terminal is `last`; there are 2 last - 1 of them.
+// Fills the area with the sides of a ring whose last terminal is `last`; there are 2 last - 1 of them. A shorter area gets the
+// first of them.
 pub fn draw_shape(shape: Shape, last: u16, links: &mut [Link])
     ensures { 1 ≤ last → Drawn shape last links.new }
 {
