@@ -2,7 +2,7 @@
 -- Assumes nothing.
 use Rattle.std.specs.Prelude.{◌≡◌, ℕ, ◌^◌, ◌<◌, List, [], ◌∷◌, ◌++◌, length}
 use Rattle.std.specs.Char.{is_whitespace, is_not_whitespace}
-use Rattle.std.specs.Str.{NoCharPasses, EmptyOrStartsWithPassing}
+use Rattle.std.specs.Str.{IsUtf8, NoCharPasses, EmptyOrStartsWithPassing}
 use Rattle.std.specs.Str.Parse.{IsNumeral, digits_value, without_leading_plus}
 use Rattle.words.specs.declared.FewWords.{FewWords}
 use Rattle.words.specs.declared.FewWords.TheVariants.{Blank, One, Two, Three, Four, More}
@@ -20,6 +20,14 @@ pub record FirstWord (text word rest : List ℕ) : Type 0 where
 abbrev pub WordsOf : List ℕ → List (List ℕ) → Type 0
 WordsOf text [] = NoCharPasses is_not_whitespace text
 WordsOf text (word ∷ ws) = (rest : List ℕ) × FirstWord text word rest × WordsOf rest ws
+
+-- each text has a list of words
+abbrev pub WordsExist : Type 0
+WordsExist = (text : List ℕ) → IsUtf8 text → (ws : List (List ℕ)) × WordsOf text ws
+
+-- and one only
+abbrev pub WordsUnique : Type 0
+WordsUnique = (text : List ℕ) (ws us : List (List ℕ)) → WordsOf text ws → WordsOf text us → ws ≡ us
 
 -- a list of words: these few, or more than four
 abbrev pub Listed : FewWords → List (List ℕ) → Type 0

@@ -2,7 +2,7 @@
 #![tactic(auto)]
 
 ghost use Rattle.std.specs.Prelude.{ℕ, List, MatchOption};
-ghost use Rattle.words.specs.Words.{WordsOf, Listed, NumeralOf, NoNumeral};
+ghost use Rattle.words.specs.Words.{WordsOf, WordsExist, WordsUnique, Listed, NumeralOf, NoNumeral};
 
 // The words of a text that has four at most.
 #[derive(Clone, Copy)]
@@ -33,10 +33,10 @@ pub fn up_to_four(text: &str) -> FewWords<'_>
     let Some(fourth) = words.next() else {
         return FewWords::Three(first, second, third);
     };
-    if words.next().is_some() {
-        return FewWords::More;
+    match words.next() {
+        Some(_) => FewWords::More,
+        None => FewWords::Four(first, second, third, fourth),
     }
-    FewWords::Four(first, second, third, fourth)
 }
 
 // The number that a word writes, if it writes one below two to the 64th.
@@ -45,3 +45,13 @@ pub fn number_of(word: &str) -> Option<usize>
 {
     word.parse::<usize>().ok()
 }
+
+// Each text has a list of words.
+pub fn each_text_has_words()
+    ensures { WordsExist }
+{}
+
+// A text has one list of words only.
+pub fn words_are_unique()
+    ensures { WordsUnique }
+{}
