@@ -45,7 +45,7 @@ fn read_shape(word: &str) -> Option<Shape>
 
 // The command that the words of a line name, if they name one.
 fn named(words: FewWords<'_>) -> Option<Command>
-    ensures { (ws : List (List ℕ)) → Listed words ws → MatchOption result ((c : Command) → Names ws c → ⊥) (Names ws) }
+    ensures { (ws : List (List ℕ)) → Listed words.entry ws → MatchOption result ((c : Command) → Names ws c → ⊥) (Names ws) }
 {
     match words {
         FewWords::Blank => Some(Command::Blank),
