@@ -1,5 +1,7 @@
 // The orders of the text, one to a line.
-ghost use Rattle.slow_quotes.specs.Orders.{OrderIs};
+ghost use Rattle.std.specs.Prelude.{ℕ, List};
+ghost use Rattle.slow_quotes.specs.Orders.{Means, OrderIs};
+ghost use Rattle.words.specs.Words.{Listed};
 
 use offers::written::Written;
 use words::{FewWords, number_of, up_to_four};
@@ -17,11 +19,11 @@ pub enum Order<R> {
     Quote(usize, usize),
 }
 
-// The order that a line writes, if it writes one.
-pub fn read_order<R: Written>(text: &str) -> Option<Order<R>>
-    ensures { OrderIs R.Written.reads text.now result }
+// The order that the words of a line name, if they name one.
+fn named<R: Written>(words: FewWords<'_>) -> Option<Order<R>>
+    ensures { (ws : List (List ℕ)) → Listed words.entry ws → Means R.Written.reads ws result }
 {
-    match up_to_four(text) {
+    match words {
         FewWords::Two("terminals", count) => Some(Order::Terminals(number_of(count)?)),
         FewWords::Three("shut", from, to) => Some(Order::Shut(number_of(from)?, number_of(to)?)),
         FewWords::Three("quote", from, to) => Some(Order::Quote(number_of(from)?, number_of(to)?)),
@@ -32,4 +34,11 @@ pub fn read_order<R: Written>(text: &str) -> Option<Order<R>>
         )),
         _ => None,
     }
+}
+
+// The order that a line writes, if it writes one.
+pub fn read_order<R: Written>(text: &str) -> Option<Order<R>>
+    ensures { OrderIs R.Written.reads text.now result }
+{
+    named(up_to_four(text))
 }
