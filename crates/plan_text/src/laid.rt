@@ -42,7 +42,7 @@ pub fn lay(heap: Global, n: usize, links: &[Link]) -> Result<Result<Laid, PlanFa
     }
 }
 
-// The number of pieces that hold the lanes of the side.
+// The number of pieces from the side's leaf piece up; in a division, those that hold its lanes.
 fn holder_count(side: Side, pieces: &[Piece]) -> usize
     ensures at_most { result ≤ 41 }
     ensures way { result ≡ way_length pieces.now side.leaf }
