@@ -1,2 +1,4 @@
 pub mod Commands
 pub mod Pages
+pub mod Laid
+pub mod Trees

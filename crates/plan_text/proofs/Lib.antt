@@ -1,0 +1,4 @@
+pub mod Pages
+pub mod Holders
+pub mod Accepted
+pub mod Trees
