@@ -1,4 +1,8 @@
 // The ring as an SVG picture: terminals on a circle, ring sides, links, sides of the fill, and seams coloured by level.
+ghost use Rattle.std.specs.Prelude.{◌≡◌, ◌≤◌, Decides};
+ghost use Rattle.plan_text.specs.Pages.{GrownBy};
+ghost use Rattle.plan_text.specs.Pictures.{are_neighbours, colour_text, Neighbours, point_at, sine, style_text, wave};
+
 use crate::laid::{Laid, deepest};
 use crate::page::Page;
 use cutting::{high_end, low_end};
@@ -20,7 +24,10 @@ struct Point {
 
 // The sine of an angle below half a turn, times the radius, by the fraction 16 p / (5 h h - 4 p) with p = a (h - a).
 // It is off by at most two thousandths of the radius.
-fn sine(angle: usize) -> usize {
+fn sine(angle: usize) -> usize
+    ensures is { result ≡ sine angle }
+    ensures within { result ≤ 300 }
+{
     let product = angle.wrapping_mul(HALF_TURN.saturating_sub(angle));
     let above = product.wrapping_mul(16 * RADIUS);
     let below = (5 * HALF_TURN * HALF_TURN).saturating_sub(product.wrapping_mul(4));
@@ -28,7 +35,10 @@ fn sine(angle: usize) -> usize {
 }
 
 // The radius and the sine of any angle together.
-fn wave(angle: usize) -> usize {
+fn wave(angle: usize) -> usize
+    ensures is { result ≡ wave angle }
+    ensures within { result ≤ 600 }
+{
     let part = angle % (2 * HALF_TURN);
     if part < HALF_TURN {
         RADIUS.saturating_add(sine(part))
@@ -38,7 +48,9 @@ fn wave(angle: usize) -> usize {
 }
 
 // Where the terminal stands: clockwise from the top.
-fn place(terminals: usize, terminal: u16) -> Point {
+fn place(terminals: usize, terminal: u16) -> Point
+    ensures { result ≡ point_at terminals terminal }
+{
     let angle = (terminal as usize * 2 * HALF_TURN)
         .checked_div(terminals)
         .unwrap_or(0);
@@ -49,13 +61,18 @@ fn place(terminals: usize, terminal: u16) -> Point {
 }
 
 // Whether the side joins neighbours on the ring.
-fn is_ring_side(terminals: usize, side: Side) -> bool {
+fn is_ring_side(terminals: usize, side: Side) -> bool
+    ensures means { Decides result (Neighbours terminals side) }
+    ensures is { result ≡ are_neighbours terminals side }
+{
     let apart = side.high.saturating_sub(side.low) as usize;
     apart == 1 || apart.saturating_add(1) == terminals
 }
 
 // How a side is drawn: links boldly, ring sides plainly, sides of the fill broken.
-fn side_style(terminals: usize, side: Side) -> &'static str {
+fn side_style(terminals: usize, side: Side) -> &'static str
+    ensures { result.now ≡ style_text terminals side }
+{
     if side.link {
         "stroke=\"#000\" stroke-width=\"2.5\""
     } else if is_ring_side(terminals, side) {
@@ -66,7 +83,9 @@ fn side_style(terminals: usize, side: Side) -> &'static str {
 }
 
 // The colour of the seams at a level; the colours come again after eight levels.
-fn level_colour(level: u8) -> &'static str {
+fn level_colour(level: u8) -> &'static str
+    ensures { result.now ≡ colour_text level }
+{
     match level % 8 {
         0 => "#d62728",
         1 => "#ff7f0e",
