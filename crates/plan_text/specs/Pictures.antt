@@ -23,13 +23,13 @@ margin = 60
 -- The sine of an angle of at most half a turn h, times the radius, by the fraction 16 p / (5 h h - 4 p), where p is the
 -- angle times what it lacks to half a turn.
 abbrev pub sine : ℕ → ℕ
-sine angle = 16 * radius * product / (5 * half_turn * half_turn - 4 * product) where
-  product = angle * (half_turn - angle)
+sine angle = let product = angle * (half_turn - angle) in product * (16 * radius) / (5 * half_turn * half_turn - product * 4)
 
 -- the radius and the sine of any angle together: in the second half of a turn the sine is taken away
 abbrev pub wave : ℕ → ℕ
-wave angle = if nat_lt part half_turn then radius + sine part else (radius - sine (part - half_turn)) where
-  part = angle % (2 * half_turn)
+wave angle =
+    let part = angle % (2 * half_turn) in
+    if nat_lt part half_turn then radius + sine part else (radius - sine (part - half_turn))
 
 -- the angle from the top, clockwise, at which a terminal of a ring of n stands
 abbrev pub angle_of : ℕ → ℕ → ℕ
@@ -37,8 +37,9 @@ angle_of n terminal = terminal * 2 * half_turn / n
 
 -- where a terminal of a ring of n stands, from the upper left corner of the picture
 unfoldable pub point_at : ℕ → ℕ → Point
-point_at n terminal = record { x = margin + wave angle; y = margin + 2 * radius - wave (angle + half_turn / 2) } where
-  angle = angle_of n terminal
+point_at n terminal =
+    let angle = angle_of n terminal in
+    record { x = wave angle + margin; y = 2 * radius + margin - wave (angle + half_turn / 2) }
 
 -- how far apart the ends of a side are; 0 if the higher end comes first
 abbrev pub apart : Side → ℕ

@@ -1,7 +1,7 @@
 // The ring as an SVG picture: terminals on a circle, ring sides, links, sides of the fill, and seams coloured by level.
-ghost use Rattle.std.specs.Prelude.{◌≡◌, ◌≤◌, Decides};
+ghost use Rattle.std.specs.Prelude.{◌≡◌, ◌*◌, ◌≤◌, Decides};
 ghost use Rattle.plan_text.specs.Pages.{GrownBy};
-ghost use Rattle.plan_text.specs.Pictures.{are_neighbours, colour_text, Neighbours, point_at, sine, style_text, wave};
+ghost use Rattle.plan_text.specs.Pictures.{are_neighbours, colour_text, Neighbours, point_at, radius, sine, style_text, wave};
 
 use crate::laid::{Laid, deepest};
 use crate::page::Page;
@@ -26,7 +26,7 @@ struct Point {
 // It is off by at most two thousandths of the radius.
 fn sine(angle: usize) -> usize
     ensures is { result ≡ sine angle }
-    ensures within { result ≤ 300 }
+    ensures within { result ≤ radius }
 {
     let product = angle.wrapping_mul(HALF_TURN.saturating_sub(angle));
     let above = product.wrapping_mul(16 * RADIUS);
@@ -37,7 +37,7 @@ fn sine(angle: usize) -> usize
 // The radius and the sine of any angle together.
 fn wave(angle: usize) -> usize
     ensures is { result ≡ wave angle }
-    ensures within { result ≤ 600 }
+    ensures within { result ≤ 2 * radius }
 {
     let part = angle % (2 * HALF_TURN);
     if part < HALF_TURN {
