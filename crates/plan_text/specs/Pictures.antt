@@ -71,3 +71,66 @@ colour_text level = slice_index_or colours (level % 8) []
 -- a number, with the text before it and after it
 abbrev pub told : List ℕ → ℕ → List ℕ → List ℕ
 told before number after = before ++ (decimal number ++ after)
+
+-- a line from one point to another, in a style
+unfoldable pub line_text : Point → Point → List ℕ → List ℕ
+line_text from to style =
+    told (codes "<line x1=\"") from.x (codes "\" ") ++ told (codes "y1=\"") from.y (codes "\" ")
+    ++ told (codes "x2=\"") to.x (codes "\" ") ++ told (codes "y2=\"") to.y (codes "\" ") ++ style ++ codes "/>\n"
+
+-- the seam of a piece, as a broad line between the places of its ends, in the colour of the piece's level
+unfoldable pub seam_text : ℕ → List Side → Piece → List ℕ
+seam_text n sides piece =
+    let seam = side_at sides piece.seam in
+    codes "<g stroke-width=\"9\" stroke-opacity=\"0.7\" stroke=\"" ++ colour_text piece.level ++ codes "\">"
+    ++ line_text (point_at n seam.low) (point_at n seam.high) [] ++ codes "</g>\n"
+
+-- a piece that is cut has a seam; a piece of one triangle has none
+abbrev pub cut_text : ℕ → List Side → Piece → List ℕ
+cut_text n sides piece = if nat_lt 0 piece.first then seam_text n sides piece else []
+
+-- a side, between the places of its ends, in its style
+abbrev pub side_text : ℕ → Side → List ℕ
+side_text n side = line_text (point_at n side.low) (point_at n side.high) (style_text n side)
+
+-- a terminal, as a circle with the terminal's number in it
+unfoldable pub terminal_text : ℕ → ℕ → List ℕ
+terminal_text n terminal =
+    let at = point_at n terminal in
+    told (codes "<circle r=\"11\" fill=\"#fff\" stroke=\"#000\" cx=\"") at.x (codes "\" ") ++ told (codes "cy=\"") at.y (codes "\"/>\n")
+    ++ told (codes "<text text-anchor=\"middle\" x=\"") at.x (codes "\" ") ++ told (codes "y=\"") (at.y + 4) (codes "\">")
+    ++ told [] terminal (codes "</text>\n")
+
+-- the line of the legend for a level, each 18 below the one before
+unfoldable pub legend_text : ℕ → List ℕ
+legend_text level =
+    told (codes "<text x=\"8\" y=\"") (level * 18 + 20) (codes "\" fill=\"") ++ colour_text level
+    ++ told (codes "\">seams at level ") level (codes "</text>\n")
+
+-- the head, with the corners of what is shown
+unfoldable pub head_text : List ℕ
+head_text =
+    let size = 2 * radius + 2 * margin in
+    told (codes "<svg xmlns=\"http://www.w3.org/2000/svg\" font-family=\"sans-serif\" font-size=\"12\" viewBox=\"0 0 ") size (codes " ")
+    ++ told [] size (codes "\">\n")
+
+-- the seams of the pieces that are cut, in the order of the pieces
+abbrev pub seams_text : ℕ → List Side → List Piece → List ℕ
+seams_text n sides pieces = flat_map (cut_text n sides) pieces
+
+abbrev pub sides_text : ℕ → List Side → List ℕ
+sides_text n sides = flat_map (side_text n) sides
+
+-- the terminals from 0 on, of which no more than 4,096 are drawn
+abbrev pub terminals_text : ℕ → List ℕ
+terminals_text n = flat_map (terminal_text n) (range_with_len 0 (min n 4096))
+
+-- the legend of the levels below one
+abbrev pub legends_text : ℕ → List ℕ
+legends_text level = flat_map legend_text (range_with_len 0 level)
+
+-- the whole picture, with a legend of the levels below one
+abbrev pub picture_text : Laid → ℕ → List ℕ
+picture_text laid level =
+    head_text ++ seams_text laid.terminals laid.sides.items laid.pieces.items ++ sides_text laid.terminals laid.sides.items
+    ++ terminals_text laid.terminals ++ legends_text level ++ codes "</svg>\n"
