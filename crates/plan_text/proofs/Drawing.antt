@@ -1,13 +1,13 @@
 -- How long a sine is, and what writing in steps puts on a page.
 -- Assumes nothing.
 use Rattle.std.proofs.Common.{◌≡◌, ℕ, ◌+◌, ◌-◌, ◌*◌, ◌/◌, ◌<◌, ◌≤◌, ◌⊎◌, inl, inr, Bool, false, List, [], ◌∷◌, ◌++◌, ap, subst, sym, ◌∙◌, arith}
-use Rattle.std.proofs.lemmas.List.{append_assoc, append-nil}
 use Rattle.std.proofs.lemmas.Bool.{cases_lt}
 use Rattle.std.proofs.lemmas.Nat.{div_below}
 use Rattle.std.proofs.Math.Nat.{mul_comm}
 use Rattle.plan_text.specs.Pages.{GrownBy}
 use Rattle.plan_text.specs.Pictures.{sine, radius}
 use Rattle.plan_text.specs.declared.page.Page.{Page}
+use Rattle.plan_text.proofs.Pages.{GrownBy-nil, GrownBy-append, GrownBy-same}
 
 square_below : (x k : ℕ) → x * (x + k + k) ≤ (x + k) * (x + k)
 square_below x k = omega arith
@@ -44,19 +44,16 @@ product_small a = elim (cases_lt a 901) [
 pub sine_within : (angle : ℕ) → sine angle ≤ radius
 sine_within angle = quotient_below (angle * (1800 - angle)) (product_small angle)
 
--- a page that grows by one text and then by another grows by the two
-pub joined : (a b c : Page) (u v : List ℕ) → GrownBy a b u → GrownBy b c v → GrownBy a c (u ++ v)
-joined a b c u v first second whole =
-    let late = second whole in
-    let early = first late.0 in
-    (early.0, late.1 ∙ ap (λ (x : List ℕ). x ++ v) early.1 ∙ append_assoc _ u v)
-
 -- the page has grown by a text, as a record, so that a next step needs to name only what is new
 pub record Grown (a b : Page) (u : List ℕ) : Type 0 where
   pub by : GrownBy a b u
 
 pub at_first : (a : Page) → Grown a a []
-at_first a = record { by = λ whole. (whole, sym (append-nil _)) }
+at_first a = record { by = GrownBy-nil a }
 
 pub then : {a b : Page} {u : List ℕ} → Grown a b u → (c : Page) (v : List ℕ) → GrownBy b c v → Grown a c (u ++ v)
-then {a} {b} {u} first c v second = record { by = joined a b c u v first.by second }
+then {a} {b} {u} first c v second = record { by = GrownBy-append a b c u v first.by second }
+
+-- the next text is also another one, to which it is equal
+pub then_as : {a b : Page} {u : List ℕ} → Grown a b u → (c : Page) (v w : List ℕ) → GrownBy b c v → v ≡ w → Grown a c (u ++ w)
+then_as {a} {b} {u} first c v w second same = then first c w (GrownBy-same b c v w same second)

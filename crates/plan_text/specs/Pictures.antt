@@ -1,6 +1,6 @@
 -- The picture of a divided ring: where it puts the terminals, and its text.
 -- Assumes nothing.
-use Rattle.std.specs.Prelude.{◌≡◌, ℕ, ◌+◌, ◌-◌, ◌*◌, ◌/◌, ◌%◌, min, Bool, ◌||◌, ◌==◌, nat_lt, if◌then◌else◌, ◌⊎◌, List, [], ◌∷◌, ◌++◌, slice_index_or, codes, decimal}
+use Rattle.std.specs.Prelude.{◌≡◌, ℕ, ◌+◌, ◌-◌, ◌*◌, ◌/◌, ◌%◌, ◌≤◌, min, Bool, ◌||◌, ◌==◌, nat_lt, if◌then◌else◌, ◌⊎◌, List, [], ◌∷◌, ◌++◌, slice_index_or, codes, decimal}
 use Rattle.std.specs.List.{flat_map, range_with_len}
 use Rattle.ring.specs.Areas.{side_at}
 use Rattle.records.specs.declared.Piece.{Piece}
@@ -40,6 +40,13 @@ unfoldable pub point_at : ℕ → ℕ → Point
 point_at n terminal =
     let angle = angle_of n terminal in
     record { x = wave angle + margin; y = 2 * radius + margin - wave (angle + half_turn / 2) }
+
+-- a point is in the picture, and no nearer to its edges than the margin
+pub record InMargins (p : Point) : Type 0 where
+  pub left : margin ≤ p.x
+  pub right : p.x ≤ margin + 2 * radius
+  pub top : margin ≤ p.y
+  pub bottom : p.y ≤ margin + 2 * radius
 
 -- how far apart the ends of a side are; 0 if the higher end comes first
 abbrev pub apart : Side → ℕ
@@ -93,13 +100,16 @@ cut_text n sides piece = if nat_lt 0 piece.first then seam_text n sides piece el
 abbrev pub side_text : ℕ → Side → List ℕ
 side_text n side = line_text (point_at n side.low) (point_at n side.high) (style_text n side)
 
--- a terminal, as a circle with the terminal's number in it
-unfoldable pub terminal_text : ℕ → ℕ → List ℕ
-terminal_text n terminal =
-    let at = point_at n terminal in
+-- a terminal at its place, as a circle with the terminal's number in it
+unfoldable pub mark_text : Point → ℕ → List ℕ
+mark_text at terminal =
     told (codes "<circle r=\"11\" fill=\"#fff\" stroke=\"#000\" cx=\"") at.x (codes "\" ") ++ told (codes "cy=\"") at.y (codes "\"/>\n")
     ++ told (codes "<text text-anchor=\"middle\" x=\"") at.x (codes "\" ") ++ told (codes "y=\"") (at.y + 4) (codes "\">")
     ++ told [] terminal (codes "</text>\n")
+
+-- a terminal of a ring of n
+abbrev pub terminal_text : ℕ → ℕ → List ℕ
+terminal_text n terminal = mark_text (point_at n terminal) terminal
 
 -- the line of the legend for a level, each 18 below the one before
 unfoldable pub legend_text : ℕ → List ℕ

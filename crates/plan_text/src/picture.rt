@@ -1,7 +1,7 @@
 // The ring as an SVG picture: terminals on a circle, ring sides, links, sides of the fill, and seams coloured by level.
 ghost use Rattle.std.specs.Prelude.{◌≡◌, ◌*◌, ◌≤◌, Decides};
 ghost use Rattle.plan_text.specs.Pages.{GrownBy};
-ghost use Rattle.plan_text.specs.Pictures.{are_neighbours, colour_text, head_text, legend_text, legends_text, line_text, Neighbours, point_at, radius, seam_text, seams_text, side_text, sides_text, sine, style_text, terminal_text, terminals_text, wave};
+ghost use Rattle.plan_text.specs.Pictures.{are_neighbours, colour_text, head_text, InMargins, legend_text, legends_text, line_text, Neighbours, point_at, radius, seam_text, seams_text, side_text, sides_text, sine, style_text, terminal_text, terminals_text, wave};
 
 use crate::laid::{Laid, deepest};
 use crate::page::Page;
@@ -50,7 +50,8 @@ fn wave(angle: usize) -> usize
 
 // Where the terminal stands: clockwise from the top.
 fn place(terminals: usize, terminal: u16) -> Point
-    ensures { result ≡ point_at terminals terminal }
+    ensures is { result ≡ point_at terminals terminal }
+    ensures inside { InMargins result }
 {
     let angle = (terminal as usize * 2 * HALF_TURN)
         .checked_div(terminals)
@@ -100,7 +101,6 @@ fn level_colour(level: u8) -> &'static str
 }
 
 // Writes a line from one point to another, in a style.
-#[tactic(auto, unfolding(crate::specs::Pictures::line_text))]
 fn write_line(page: &mut Page, from: Point, to: Point, style: &str)
     ensures { GrownBy page.old page.new (line_text from to style.now) }
 {
@@ -152,7 +152,6 @@ fn write_sides(page: &mut Page, laid: &Laid)
     }
 }
 
-#[tactic(auto, unfolding(crate::specs::Pictures::terminal_text))]
 fn write_terminal(page: &mut Page, terminals: usize, terminal: u16)
     ensures { GrownBy page.old page.new (terminal_text terminals terminal) }
 {
@@ -199,7 +198,6 @@ fn write_levels(page: &mut Page, last: u8)
 }
 
 // Writes what comes before the picture's parts: its size.
-#[tactic(auto, unfolding(crate::specs::Pictures::head_text))]
 fn write_head(page: &mut Page)
     ensures { GrownBy page.old page.new head_text }
 {

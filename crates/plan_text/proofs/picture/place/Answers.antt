@@ -5,9 +5,9 @@ use Rattle.std.proofs.Math.Nat.{div-le_self}
 use Rattle.plan_text.specs.Pictures.{angle_of, margin, point_at, radius, wave}
 use Rattle.plan_text.proofs.picture.place.Goals as goal
 
-pub returns : goal.returns
+pub returns-clause-is : goal.returns-clause-is
 unfolding point_at
-returns c =
+returns-clause-is c =
     let angle : ℕ = angle_of c.args.terminals c.args.terminal in
     let turned : c.unwrap_or-angle.result ≡ angle = grind (arith, common_steps) in
     let few : angle ≤ c.args.terminal * 2 * 1800 = div-le_self (c.args.terminal * 2 * 1800) c.args.terminals in
