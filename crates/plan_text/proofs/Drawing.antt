@@ -1,9 +1,12 @@
 -- How long a sine is, and what writing in steps puts on a page.
 -- Assumes nothing.
-use Rattle.std.proofs.Common.{◌≡◌, ℕ, ◌+◌, ◌-◌, ◌*◌, ◌/◌, ◌<◌, ◌≤◌, ◌⊎◌, inl, inr, Bool, false, List, [], ◌∷◌, ◌++◌, ap, subst, sym, ◌∙◌, arith}
+use Rattle.std.proofs.Common.{◌≡◌, ℕ, ◌+◌, ◌-◌, ◌*◌, ◌/◌, ◌<◌, ◌≤◌, ◌⊎◌, inl, inr, List, [], ◌∷◌,  ◌++◌, ap, subst, sym, ◌∙◌, arith}
 use Rattle.std.proofs.lemmas.Bool.{cases_lt}
 use Rattle.std.proofs.lemmas.Nat.{div_below}
 use Rattle.std.proofs.Math.Nat.{mul_comm}
+use Rattle.std.proofs.lemmas.List.{flat_map_more, map-id}
+use Rattle.std.proofs.lemmas.List.FromFn.{map-range_with_len_more}
+use Rattle.std.specs.List.{flat_map, range_with_len}
 use Rattle.plan_text.specs.Pages.{GrownBy}
 use Rattle.plan_text.specs.Pictures.{sine, radius}
 use Rattle.plan_text.specs.declared.page.Page.{Page}
@@ -57,3 +60,14 @@ then {a} {b} {u} first c v second = record { by = GrownBy-append a b c u v first
 -- the next text is also another one, to which it is equal
 pub then_as : {a b : Page} {u : List ℕ} → Grown a b u → (c : Page) (v w : List ℕ) → GrownBy b c v → v ≡ w → Grown a c (u ++ w)
 then_as {a} {b} {u} first c v w second same = then first c w (GrownBy-same b c v w same second)
+
+-- the whole text, written otherwise
+pub whole_as : {a b : Page} {u : List ℕ} → Grown a b u → (v : List ℕ) → u ≡ v → GrownBy a b v
+whole_as {a} {b} {u} grown v same = GrownBy-same a b u v same grown.by
+
+range_more : (n : ℕ) → range_with_len 0 (n + 1) ≡ range_with_len 0 n ++ n ∷ []
+range_more n = sym (map-id _) ∙ map-range_with_len_more (λ (k : ℕ). k) 0 n n (omega arith) ∙ ap (λ (xs : List ℕ). xs ++ n ∷ []) (map-id _)
+
+-- the texts of the numbers below n, and one more
+pub one_more : (f : ℕ → List ℕ) (n : ℕ) → flat_map f (range_with_len 0 n) ++ f n ≡ flat_map f (range_with_len 0 (n + 1))
+one_more f n = flat_map_more f [] (range_with_len 0 n) n ∙ ap (flat_map f) (sym (range_more n))
