@@ -1,2 +1,5 @@
 pub mod Drawing
 pub mod Pages
+pub mod Holders
+pub mod Accepted
+pub mod Trees

@@ -1,2 +1,4 @@
 pub mod Pages
 pub mod Pictures
+pub mod Laid
+pub mod Trees

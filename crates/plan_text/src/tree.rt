@@ -1,4 +1,9 @@
 // The division as a tree, one line for a piece, and the one-line summary.
+ghost use Rattle.std.specs.Prelude.{◌≡◌};
+ghost use Rattle.records.specs.Few.{listed};
+ghost use Rattle.plan_text.specs.Pages.{GrownBy, GrownByA};
+ghost use Rattle.plan_text.specs.Trees.{content_text, edges_text, ends_text, fault_text, faulty_link, piece_text, reason, SummaryText, tree_text};
+
 use crate::laid::{Laid, deepest, most_holders};
 use crate::page::Page;
 use cutting::{high_end, low_end, triangles};
@@ -6,12 +11,17 @@ use records::{Few, Piece};
 use ring::{Link, PlanFault, Side};
 
 // Writes the ends of the side i.
-fn write_ends(page: &mut Page, sides: &[Side], i: u16) {
+fn write_ends(page: &mut Page, sides: &[Side], i: u16)
+    ensures { GrownBy page.old page.new (ends_text sides.now i) }
+{
     page.say("", low_end(sides, i) as usize, "-");
     page.number(high_end(sides, i) as usize);
 }
 
-fn write_edges(page: &mut Page, edges: Few) {
+// Writes the edge terminals, if there are any.
+fn write_edges(page: &mut Page, edges: Few)
+    ensures { GrownBy page.old page.new (edges_text (listed edges)) }
+{
     if edges.len() == 0 {
         return;
     }
@@ -22,7 +32,9 @@ fn write_edges(page: &mut Page, edges: Few) {
 }
 
 // What a piece is: its triangles and its seam, or its one triangle's terminals.
-fn write_content(page: &mut Page, sides: &[Side], piece: Piece) {
+fn write_content(page: &mut Page, sides: &[Side], piece: Piece)
+    ensures { GrownBy page.old page.new (content_text sides.now piece) }
+{
     if piece.first == 0 {
         page.say("triangle ", low_end(sides, piece.top) as usize, " ");
         page.say(
@@ -38,7 +50,10 @@ fn write_content(page: &mut Page, sides: &[Side], piece: Piece) {
     }
 }
 
-fn write_piece(page: &mut Page, sides: &[Side], number: usize, piece: Piece) {
+// Writes the line of a piece.
+fn write_piece(page: &mut Page, sides: &[Side], number: usize, piece: Piece)
+    ensures { GrownBy page.old page.new (piece_text sides.now number piece) }
+{
     for _ in 0..piece.level {
         page.word("  ");
     }
@@ -50,7 +65,9 @@ fn write_piece(page: &mut Page, sides: &[Side], number: usize, piece: Piece) {
 }
 
 // Writes the counts of a division.
-pub fn write_summary(page: &mut Page, laid: &Laid) {
+pub fn write_summary(page: &mut Page, laid: &Laid)
+    ensures { GrownByA (SummaryText laid.now) page.old page.new }
+{
     page.say("pieces: ", laid.pieces.len(), ", deepest level: ");
     page.number(deepest(&laid.pieces) as usize);
     page.say(
@@ -61,14 +78,19 @@ pub fn write_summary(page: &mut Page, laid: &Laid) {
 }
 
 // Writes the whole tree: the records stand in the order of the tree, a piece before its parts.
-pub fn write_tree(page: &mut Page, laid: &Laid) {
+pub fn write_tree(page: &mut Page, laid: &Laid)
+    ensures { GrownBy page.old page.new (tree_text laid.now) }
+{
     for (number, piece) in laid.pieces.iter().enumerate() {
         write_piece(page, &laid.sides, number, *piece);
     }
 }
 
 // What a fault of a link says, and the link's index.
-fn link_fault(fault: PlanFault) -> (&'static str, Option<usize>) {
+fn link_fault(fault: PlanFault) -> (&'static str, Option<usize>)
+    ensures why { result.0.now ≡ reason fault }
+    ensures index { result.1 ≡ faulty_link fault }
+{
     match fault {
         PlanFault::Terminals => ("a ring has 3 to 4096 terminals", None),
         PlanFault::ShortArea => ("an area is too short", None),
@@ -79,7 +101,9 @@ fn link_fault(fault: PlanFault) -> (&'static str, Option<usize>) {
 }
 
 // Writes why a plan is refused: the number, and the link with its index.
-pub fn write_fault(page: &mut Page, links: &[Link], fault: PlanFault) {
+pub fn write_fault(page: &mut Page, links: &[Link], fault: PlanFault)
+    ensures { GrownBy page.old page.new (fault_text links.now fault) }
+{
     let (why, index) = link_fault(fault);
     page.say("refused, number ", fault.number() as usize, ": ");
     if let Some(i) = index {
