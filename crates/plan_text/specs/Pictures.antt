@@ -7,6 +7,7 @@ use Rattle.records.specs.declared.Piece.{Piece}
 use Rattle.ring.specs.declared.Side.{Side}
 use Rattle.plan_text.specs.declared.laid.Laid.{Laid}
 use Rattle.plan_text.specs.declared.picture.Point.{Point}
+use Rattle.plan_text.specs.Laid.{Deepest}
 
 -- half a turn, in tenths of a degree
 abbrev pub half_turn : ℕ
@@ -144,3 +145,7 @@ abbrev pub picture_text : Laid → ℕ → List ℕ
 picture_text laid level =
     head_text ++ seams_text laid.terminals laid.sides.items laid.pieces.items ++ sides_text laid.terminals laid.sides.items
     ++ terminals_text laid.terminals ++ legends_text level ++ codes "</svg>\n"
+
+-- the text of the picture of a divided ring: the legend has a line for each level above the deepest
+abbrev pub PictureText : Laid → List ℕ → Type 0
+PictureText laid words = (level : ℕ) × Deepest laid.pieces.items level × (words ≡ picture_text laid level)

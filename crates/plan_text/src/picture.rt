@@ -1,7 +1,7 @@
 // The ring as an SVG picture: terminals on a circle, ring sides, links, sides of the fill, and seams coloured by level.
 ghost use Rattle.std.specs.Prelude.{◌≡◌, ◌*◌, ◌≤◌, Decides};
-ghost use Rattle.plan_text.specs.Pages.{GrownBy};
-ghost use Rattle.plan_text.specs.Pictures.{are_neighbours, colour_text, head_text, InMargins, legend_text, legends_text, line_text, Neighbours, point_at, radius, seam_text, seams_text, side_text, sides_text, sine, style_text, terminal_text, terminals_text, wave};
+ghost use Rattle.plan_text.specs.Pages.{GrownBy, GrownByA};
+ghost use Rattle.plan_text.specs.Pictures.{are_neighbours, colour_text, head_text, InMargins, legend_text, legends_text, line_text, Neighbours, PictureText, point_at, radius, seam_text, seams_text, side_text, sides_text, sine, style_text, terminal_text, terminals_text, wave};
 
 use crate::laid::{Laid, deepest};
 use crate::page::Page;
@@ -211,7 +211,9 @@ fn write_head(page: &mut Page)
 }
 
 // Writes the whole picture.
-pub fn write_picture(page: &mut Page, laid: &Laid) {
+pub fn write_picture(page: &mut Page, laid: &Laid)
+    ensures { GrownByA (PictureText laid.now) page.old page.new }
+{
     write_head(page);
     write_seams(page, laid);
     write_sides(page, laid);
