@@ -1,3 +1,4 @@
+pub mod Circles
 pub mod Drawing
 pub mod Pages
 pub mod Holders

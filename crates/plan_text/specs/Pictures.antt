@@ -36,11 +36,13 @@ wave angle =
 abbrev pub angle_of : ℕ → ℕ → ℕ
 angle_of n terminal = terminal * 2 * half_turn / n
 
--- where a terminal of a ring of n stands, from the upper left corner of the picture
+-- the point of the circle at an angle from the top, clockwise; points are counted from the upper left corner of the picture
+abbrev pub circle_point : ℕ → Point
+circle_point angle = record { x = wave angle + margin; y = 2 * radius + margin - wave (angle + half_turn / 2) }
+
+-- where a terminal of a ring of n stands
 unfoldable pub point_at : ℕ → ℕ → Point
-point_at n terminal =
-    let angle = angle_of n terminal in
-    record { x = wave angle + margin; y = 2 * radius + margin - wave (angle + half_turn / 2) }
+point_at n terminal = circle_point (angle_of n terminal)
 
 -- a point is in the picture, and no nearer to its edges than the margin
 pub record InMargins (p : Point) : Type 0 where
@@ -48,6 +50,19 @@ pub record InMargins (p : Point) : Type 0 where
   pub right : p.x ≤ margin + 2 * radius
   pub top : margin ≤ p.y
   pub bottom : p.y ≤ margin + 2 * radius
+
+-- how far from the centre a point is, to the right or left, or up or down
+abbrev pub from_centre : ℕ → ℕ
+from_centre a = let centre = margin + radius in (a - centre) + (centre - a)
+
+-- the square of a point's distance from the centre
+abbrev pub square_distance : Point → ℕ
+square_distance p = from_centre p.x * from_centre p.x + from_centre p.y * from_centre p.y
+
+-- a point is on the circle, or at most 2 inside it
+pub record NearCircle (p : Point) : Type 0 where
+  pub inner : (radius - 2) * (radius - 2) ≤ square_distance p
+  pub outer : square_distance p ≤ radius * radius
 
 -- how far apart the ends of a side are; 0 if the higher end comes first
 abbrev pub apart : Side → ℕ

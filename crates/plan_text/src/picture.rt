@@ -1,7 +1,7 @@
 // The ring as an SVG picture: terminals on a circle, ring sides, links, sides of the fill, and seams coloured by level.
 ghost use Rattle.std.specs.Prelude.{◌≡◌, ◌*◌, ◌≤◌, Decides};
 ghost use Rattle.plan_text.specs.Pages.{GrownBy, GrownByA};
-ghost use Rattle.plan_text.specs.Pictures.{are_neighbours, colour_text, head_text, InMargins, legend_text, legends_text, line_text, Neighbours, PictureText, point_at, radius, seam_text, seams_text, side_text, sides_text, sine, style_text, terminal_text, terminals_text, wave};
+ghost use Rattle.plan_text.specs.Pictures.{are_neighbours, colour_text, head_text, InMargins, legend_text, legends_text, line_text, NearCircle, Neighbours, PictureText, point_at, radius, seam_text, seams_text, side_text, sides_text, sine, style_text, terminal_text, terminals_text, wave};
 
 use crate::laid::{Laid, deepest};
 use crate::page::Page;
@@ -52,6 +52,7 @@ fn wave(angle: usize) -> usize
 fn place(terminals: usize, terminal: u16) -> Point
     ensures is { result ≡ point_at terminals terminal }
     ensures inside { InMargins result }
+    ensures near { NearCircle result }
 {
     let angle = (terminal as usize * 2 * HALF_TURN)
         .checked_div(terminals)

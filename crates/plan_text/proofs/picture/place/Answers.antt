@@ -1,8 +1,9 @@
 -- The turn of a terminal fits, so nothing is cut off on the way to its place.
-use Rattle.std.proofs.Common.{◌≡◌, ℕ, ◌+◌, ◌-◌, ◌*◌, ◌/◌, ◌≤◌, arith, ap, ◌∙◌}
+use Rattle.std.proofs.Common.{◌≡◌, ℕ, ◌+◌, ◌-◌, ◌*◌, ◌/◌, ◌≤◌, arith, ap, subst, sym, ◌∙◌}
 use Rattle.std.proofs.lemmas.Grind.{common_steps}
 use Rattle.std.proofs.Math.Nat.{div-le_self}
-use Rattle.plan_text.specs.Pictures.{angle_of, margin, point_at, radius, wave}
+use Rattle.plan_text.specs.Pictures.{angle_of, margin, NearCircle, point_at, radius, wave}
+use Rattle.plan_text.proofs.Circles.{near_circle}
 use Rattle.plan_text.proofs.picture.place.Goals as goal
 
 pub returns-clause-is : goal.returns-clause-is
@@ -16,3 +17,7 @@ returns-clause-is c =
     let across : c.saturating_add.result ≡ wave angle + margin = right ∙ ap (λ (w : ℕ). w + margin) (c.wave.ensures.is ∙ ap wave turned) in
     let down : c.saturating_sub.result ≡ 2 * radius + margin - wave (angle + 900) = c.saturating_sub.ensures ∙ ap (λ (w : ℕ). 2 * radius + margin - w) (c.wave-2.ensures.is ∙ ap wave quarter) in
     cc (across, down)
+
+pub returns-clause-near : goal.returns-clause-near
+unfolding point_at
+returns-clause-near c = subst NearCircle (sym (returns-clause-is c)) (near_circle (angle_of c.args.terminals c.args.terminal))
