@@ -1,17 +1,17 @@
 -- Each point of the circle is near the circle: by a look at each tenth of a degree.
 -- Assumes nothing.
-use Rattle.std.proofs.Common.{◌≡◌, ℕ, ◌+◌, ◌*◌, ◌%◌, ◌<◌, ◌≤◌, Bool, true, false, ◌&&◌, leb, length, get_or, refl, ap, subst, sym, ◌∙◌, arith}
+use Rattle.std.proofs.Common.{◌≡◌, ℕ, ◌+◌, ◌-◌, ◌*◌, ◌%◌, ◌<◌, ◌≤◌, Bool, true, false, ◌&&◌, leb, length, get_or, refl, ap, subst, sym, ◌∙◌, arith}
 use Rattle.std.proofs.Math.Nat.{mod-mod}
 use Rattle.std.proofs.lemmas.Bool.{false≢true}
 use Rattle.std.proofs.lemmas.Bool.Decides.{nat_tests}
 use Rattle.std.proofs.lemmas.List.Folds.{list_all_at}
 use Rattle.std.proofs.lemmas.List.FromFn.{get_or-range_with_len, length-range_with_len}
 use Rattle.std.specs.List.{list_all, range_with_len}
-use Rattle.plan_text.specs.Pictures.{circle_point, NearCircle, square_distance}
+use Rattle.plan_text.specs.Pictures.{circle_point, NearCircle, radius, square_distance}
 
 -- a look at one angle
 abbrev is_near : ℕ → Bool
-is_near angle = let square = square_distance (circle_point angle) in leb 88804 square && leb square 90000
+is_near angle = let square = square_distance (circle_point angle) in leb ((radius - 2) * (radius - 2)) square && leb square (radius * radius)
 
 all_near : list_all is_near (range_with_len 0 3600) ≡ true
 all_near = refl

@@ -1,5 +1,5 @@
 -- The picture of a divided ring: where it puts the terminals, and its text.
--- Assumes nothing.
+-- Assumes the deepest level of `Laid`; n is the number of terminals.
 use Rattle.std.specs.Prelude.{◌≡◌, ℕ, ◌+◌, ◌-◌, ◌*◌, ◌/◌, ◌%◌, ◌≤◌, min, Bool, ◌||◌, ◌==◌, nat_lt, if◌then◌else◌, ◌⊎◌, List, [], ◌∷◌, ◌++◌, slice_index_or, codes, decimal}
 use Rattle.std.specs.List.{flat_map, range_with_len}
 use Rattle.ring.specs.Areas.{side_at}
@@ -64,7 +64,7 @@ pub record NearCircle (p : Point) : Type 0 where
   pub inner : (radius - 2) * (radius - 2) ≤ square_distance p
   pub outer : square_distance p ≤ radius * radius
 
--- how far apart the ends of a side are; 0 if the higher end comes first
+-- how far apart the ends of a side are; 0 if they stand the wrong way round
 abbrev pub apart : Side → ℕ
 apart side = side.high - side.low
 
@@ -161,6 +161,6 @@ picture_text laid level =
     head_text ++ seams_text laid.terminals laid.sides.items laid.pieces.items ++ sides_text laid.terminals laid.sides.items
     ++ terminals_text laid.terminals ++ legends_text level ++ codes "</svg>\n"
 
--- the text of the picture of a divided ring: the legend has a line for each level above the deepest
+-- the text of the picture of a divided ring: the legend has a line for each level before the deepest, since only those have seams
 abbrev pub PictureText : Laid → List ℕ → Type 0
 PictureText laid words = (level : ℕ) × Deepest laid.pieces.items level × (words ≡ picture_text laid level)

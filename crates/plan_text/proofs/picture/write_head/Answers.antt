@@ -1,5 +1,4 @@
-use Rattle.std.proofs.Common.{◌+◌, ◌*◌, [], codes}
-use Rattle.plan_text.specs.Pictures.{head_text, margin, radius, told}
+use Rattle.plan_text.specs.Pictures.{head_text}
 use Rattle.plan_text.proofs.Drawing.{at_first, then}
 use Rattle.plan_text.proofs.picture.write_head.Goals as goal
 

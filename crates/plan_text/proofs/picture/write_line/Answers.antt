@@ -1,5 +1,4 @@
-use Rattle.std.proofs.Common.{◌++◌, codes}
-use Rattle.plan_text.specs.Pictures.{line_text, told}
+use Rattle.plan_text.specs.Pictures.{line_text}
 use Rattle.plan_text.proofs.Drawing.{at_first, then}
 use Rattle.plan_text.proofs.picture.write_line.Goals as goal
 

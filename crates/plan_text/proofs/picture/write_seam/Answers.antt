@@ -1,4 +1,4 @@
-use Rattle.std.proofs.Common.{◌≡◌, [], ap}
+use Rattle.std.proofs.Common.{◌≡◌, []}
 use Rattle.ring.specs.Areas.{side_at}
 use Rattle.plan_text.specs.Pictures.{colour_text, line_text, point_at, seam_text}
 use Rattle.plan_text.proofs.Drawing.{at_first, then, then_as}

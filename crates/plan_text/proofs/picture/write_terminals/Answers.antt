@@ -1,4 +1,4 @@
-use Rattle.std.proofs.Common.{List, ℕ, ◌+◌}
+use Rattle.std.proofs.Common.{◌+◌}
 use Rattle.std.specs.List.{flat_map, range_with_len}
 use Rattle.plan_text.specs.Pictures.{terminal_text}
 use Rattle.plan_text.proofs.Drawing.{Grown, one_more, then, whole_as}
