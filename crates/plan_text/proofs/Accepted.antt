@@ -1,6 +1,6 @@
 -- What `lay` answers, from what `plan` leaves in areas of just the needed lengths.
 -- Assumes the terms of `plan`.
-use Rattle.std.proofs.Common.{◌≡◌, ℕ, zero, suc, ◌+◌, ◌*◌, ◌<◌, ◌≤◌, ◌⊎◌, min, List, [], length, Ok, Err, slice_index_or, refl, sym, subst, inl, inr, ⊎_elim, arith}
+use Rattle.std.proofs.Common.{◌≡◌, ℕ, zero, suc, ◌<◌, ◌≤◌, ◌⊎◌, min, List, [], length, Ok, Err, refl, sym, subst, inl, inr, ⊎_elim, arith}
 use Rattle.std.proofs.lemmas.Bool.{cases_lt}
 use Rattle.triangulation.specs.Trees.{side_count}
 use Rattle.ring.specs.declared.Area.{Area}
@@ -8,7 +8,7 @@ use Rattle.ring.specs.declared.Link.{Link}
 use Rattle.ring.specs.declared.Side.{Side}
 use Rattle.ring.specs.declared.PlanFault.{PlanFault}
 use Rattle.ring.specs.declared.PlanFault.TheVariants.{Terminals, ShortArea, BadEnds, Repeats, Crosses}
-use Rattle.ring.specs.Faults.{Condition, First, Short, SomeShort, fewest, most}
+use Rattle.ring.specs.Faults.{Condition, First, SomeShort, fewest, most}
 use Rattle.records.specs.declared.Piece.{Piece}
 use Rattle.division.specs.Outcome.{front_ends}
 use Rattle.plan.specs.Layout.{Layout, lent, piece_count}

@@ -1,6 +1,6 @@
 -- How many pieces hold a lane: the length of the way up from a side's leaf piece, in a division.
 -- Assumes nothing, but for the last section a division.
-use Rattle.std.proofs.Common.{◌≡◌, ℕ, zero, suc, ◌+◌, ◌-◌, ◌*◌, ◌<◌, ◌≤◌, min, Bool, true, false, cond, ltb, List, [], ◌∷◌, length, sym, refl, ap, ◌∙◌, subst, inl, inr, ⊎_elim, arith}
+use Rattle.std.proofs.Common.{◌≡◌, ℕ, zero, suc, ◌+◌, ◌-◌, ◌*◌, ◌<◌, ◌≤◌, min, Bool, true, false, ltb, List, [], ◌∷◌, length, sym, refl, ap, ◌∙◌, subst, inl, inr, ⊎_elim, arith}
 use Rattle.std.proofs.lemmas.List.{length-take-le}
 use Rattle.std.proofs.lemmas.Bool.{cond-true, cond-false, cases_Bool, and_parts, ltb-true}
 use Rattle.std.proofs.Math.Nat.{eq-or-lt_of_le}
@@ -13,7 +13,7 @@ use Rattle.pieces.specs.Division.{Division, LeafMarked}
 use Rattle.pieces.specs.Holders.{climbs, way_up}
 use Rattle.pieces.proofs.LaneHolders.{lane_holders}
 use Rattle.holders.specs.Walks.{Walked}
-use Rattle.plan_text.specs.Laid.{leaf_of, way_length, holder_count, DividedRing, MostHeld, MostHolders}
+use Rattle.plan_text.specs.Laid.{leaf_of, way_length, holder_count, MostHolders}
 
 -- the numbers fall, and all are below m
 abbrev pub FallsBelow : ℕ → List ℕ → Type 0
@@ -43,18 +43,18 @@ count_listed f (suc m) (w ∷ ws) falls all only =
     let le : w ≤ m = omega (arith, falls.0) in
     ⊎_elim
     (λ (is : w ≡ m).
-        let passes : f m ≡ true = subst (λ x. f x ≡ true) is (only w (inl refl)) in
-        let rest =
-            count_listed f m ws (subst (λ x. FallsBelow x ws) is falls.1)
-            (λ p lt yes. ⊎_elim (λ (same : p ≡ w). absurd (omega arith)) (λ more. more) (all p (omega arith) yes))
-            (λ p at. only p (inr at)) in
-        omega (arith, cond-true {A = ℕ} (f m) 1 0 passes, rest))
+    let passes : f m ≡ true = subst (λ x. f x ≡ true) is (only w (inl refl)) in
+    let rest =
+    count_listed f m ws (subst (λ x. FallsBelow x ws) is falls.1)
+    (λ p lt yes. ⊎_elim (λ (same : p ≡ w). absurd (omega arith)) (λ more. more) (all p (omega arith) yes))
+    (λ p at. only p (inr at)) in
+    omega (arith, cond-true {A = ℕ} (f m) 1 0 passes, rest))
     (λ (lt : w < m).
-        let rest = count_listed f m (w ∷ ws) (lt, falls.1) (λ p below yes. all p (omega arith) yes) only in
-        ⊎_elim
-        (λ passes. absurd (⊎_elim (λ (same : m ≡ w). omega arith) (λ more. omega (arith, Among-below m w ws falls.1 more)) (all m (omega arith) passes)))
-        (λ fails. omega (arith, cond-false {A = ℕ} (f m) 1 0 fails, rest))
-        (cases_Bool (f m)))
+    let rest = count_listed f m (w ∷ ws) (lt, falls.1) (λ p below yes. all p (omega arith) yes) only in
+    ⊎_elim
+    (λ passes. absurd (⊎_elim (λ (same : m ≡ w). omega arith) (λ more. omega (arith, Among-below m w ws falls.1 more)) (all m (omega arith) passes)))
+    (λ fails. omega (arith, cond-false {A = ℕ} (f m) 1 0 fails, rest))
+    (cases_Bool (f m)))
     (eq-or-lt_of_le le)
 
 -- a way up goes to lower numbers
@@ -63,10 +63,10 @@ way_up_falls ps zero p = tt
 way_up_falls ps (suc f) p =
     ⊎_elim
     (λ (goes : climbs ps p ≡ true).
-        let lower : (piece_at ps p).parent < p = 
-            ltb-true (piece_at ps p).parent p (and_parts (ltb p (length ps)) (ltb (piece_at ps p).parent p) goes).1 in
-        let more = FallsBelow-le ((piece_at ps p).parent + 1) p (way_up ps f (piece_at ps p).parent) (omega arith) (way_up_falls ps f (piece_at ps p).parent) in
-        (omega arith, subst (FallsBelow p) (sym (cond-true (climbs ps p) (way_up ps f (piece_at ps p).parent) [] goes)) more))
+    let lower : (piece_at ps p).parent < p =
+    ltb-true (piece_at ps p).parent p (and_parts (ltb p (length ps)) (ltb (piece_at ps p).parent p) goes).1 in
+    let more = FallsBelow-le ((piece_at ps p).parent + 1) p (way_up ps f (piece_at ps p).parent) (omega arith) (way_up_falls ps f (piece_at ps p).parent) in
+    (omega arith, subst (FallsBelow p) (sym (cond-true (climbs ps p) (way_up ps f (piece_at ps p).parent) [] goes)) more))
     (λ (stops : climbs ps p ≡ false). (omega arith, subst (FallsBelow p) (sym (cond-false (climbs ps p) (way_up ps f (piece_at ps p).parent) [] stops)) tt))
     (cases_Bool (climbs ps p))
 

@@ -20,3 +20,10 @@ pub GrownBy-same : (before after : Page) (u v : List ℕ) → u ≡ v → GrownB
 GrownBy-same before after u v e grown = λ long.
     let it = grown long in
     (it.0, it.1 ∙ ap (λ (x : List ℕ). string_bytes before.text ++ x) e)
+
+-- a number with the text before it and after it, and a text behind these
+pub GrownBy-said : (one two three : Page) (before number after words : List ℕ) → GrownBy one two (before ++ (number ++ after)) → GrownBy two three words → GrownBy one three (before ++ (number ++ (after ++ words)))
+GrownBy-said one two three before number after words said rest =
+    GrownBy-same one three ((before ++ (number ++ after)) ++ words) (before ++ (number ++ (after ++ words)))
+    (append_assoc before (number ++ after) words ∙ ap (λ (x : List ℕ). before ++ x) (append_assoc number after words))
+    (GrownBy-append one two three (before ++ (number ++ after)) words said rest)

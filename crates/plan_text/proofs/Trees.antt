@@ -1,6 +1,6 @@
 -- The texts of a division, one part after another.
 -- Assumes nothing.
-use Rattle.std.proofs.Common.{◌≡◌, ℕ, zero, suc, ◌+◌, ◌<◌, List, [], ◌∷◌, ◌++◌, length, take, get_or, false, cond, codes, decimal, refl, sym, ap, ◌∙◌, subst, append_assoc, add-one, arith}
+use Rattle.std.proofs.Common.{◌≡◌, ℕ, ◌+◌, ◌<◌, List, [], ◌∷◌, ◌++◌, length, take, get_or, false, codes, decimal, refl, sym, ap, ◌∙◌, append_assoc, add-one, arith}
 use Rattle.std.specs.Prelude.{◌==◌}
 use Rattle.std.proofs.lemmas.List.{append-nil, take_more, length-take-le}
 use Rattle.std.proofs.lemmas.Grind.{flat_map-append}
@@ -9,8 +9,7 @@ use Rattle.ring.specs.declared.Side.{Side}
 use Rattle.records.specs.declared.Piece.{Piece}
 use Rattle.records.specs.Few.{listed}
 use Rattle.pieces.specs.Sides.{lengths}
-use Rattle.pieces.specs.Cuts.{triangles, whole}
-use Rattle.pieces.specs.Holding.{piece_at}
+use Rattle.pieces.specs.Cuts.{triangles}
 use Rattle.plan_text.specs.Trees.{spaced, edges_text, ends_text, triangle_text, content_text, indent, piece_text, lines_from}
 
 pub edges_none : (xs : List ℕ) → length xs ≡ 0 → edges_text xs ≡ []
@@ -40,10 +39,10 @@ lines_from-append sides n (x ∷ xs) ys =
     ap (λ rest. piece_text sides n x ++ rest) (lines_from-append sides (n + 1) xs ys ∙ ap (λ k. lines_from sides (n + 1) xs ++ lines_from sides k ys) e)
     ∙ sym (append_assoc (piece_text sides n x) (lines_from sides (n + 1) xs) (lines_from sides (n + length (x ∷ xs)) ys))
 
-pub lines_more : (sides : List Side) (pieces : List Piece) (i : ℕ) → i < length pieces → lines_from sides 0 (take (i + 1) pieces) ≡ lines_from sides 0 (take i pieces) ++ piece_text sides i (piece_at pieces i)
-lines_more sides pieces i inside =
+pub lines_more : (sides : List Side) (pieces : List Piece) (i : ℕ) (d : Piece) → i < length pieces → lines_from sides 0 (take (i + 1) pieces) ≡ lines_from sides 0 (take i pieces) ++ piece_text sides i (get_or pieces i d)
+lines_more sides pieces i d inside =
     let e : 0 + length (take i pieces) ≡ i = omega (arith, length-take-le i pieces (omega arith)) in
-    ap (lines_from sides 0) (take_more pieces i whole inside)
-    ∙ lines_from-append sides 0 (take i pieces) (piece_at pieces i ∷ [])
-    ∙ ap (λ k. lines_from sides 0 (take i pieces) ++ (piece_text sides k (piece_at pieces i) ++ [])) e
-    ∙ ap (λ rest. lines_from sides 0 (take i pieces) ++ rest) (append-nil (piece_text sides i (piece_at pieces i)))
+    ap (lines_from sides 0) (take_more pieces i d inside)
+    ∙ lines_from-append sides 0 (take i pieces) (get_or pieces i d ∷ [])
+    ∙ ap (λ k. lines_from sides 0 (take i pieces) ++ (piece_text sides k (get_or pieces i d) ++ [])) e
+    ∙ ap (λ rest. lines_from sides 0 (take i pieces) ++ rest) (append-nil (piece_text sides i (get_or pieces i d)))

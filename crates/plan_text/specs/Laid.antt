@@ -1,7 +1,6 @@
 -- A plan laid out: what `lay` answers, the deepest level of a piece, and the most pieces that hold one lane.
 -- Assumes the terms of `plan`, `ring` and `pieces`; n is the number of terminals.
-use Rattle.std.specs.Prelude.{◌≡◌, ℕ, ◌+◌, ◌-◌, ◌*◌, ◌<◌, ◌≤◌, List, [], length, Ok, Err, vec_len, slice_index_or}
-use Rattle.triangulation.specs.Trees.{side_count}
+use Rattle.std.specs.Prelude.{◌≡◌, ℕ, ◌+◌, ◌-◌, ◌*◌, ◌<◌, ◌≤◌, List, [], length, Ok, Err, slice_index_or}
 use Rattle.ring.specs.declared.Link.{Link}
 use Rattle.ring.specs.declared.Side.{Side}
 use Rattle.ring.specs.declared.PlanFault.{PlanFault}
@@ -12,7 +11,7 @@ use Rattle.pieces.specs.Holding.{piece_at, holds, count}
 use Rattle.pieces.specs.Division.{Division, LeavesMarked}
 use Rattle.pieces.specs.Holders.{way_up}
 use Rattle.division.specs.Outcome.{front_ends}
-use Rattle.plan.specs.Layout.{Layout, piece_count}
+use Rattle.plan.specs.Layout.{Layout}
 use Rattle.plan_text.specs.declared.laid.Laid.{Laid}
 
 -- r is the greatest level of a piece, or 0 if there is none

@@ -1,6 +1,6 @@
 -- A division as text: the summary, the tree with one line for a piece, and why a plan is refused.
 -- Assumes nothing: records of any content have a text.
-use Rattle.std.specs.Prelude.{◌≡◌, ℕ, zero, suc, ◌+◌, ◌<◌, List, [], ◌∷◌, ◌++◌, length, Some, None, Option, if◌then◌else◌, ◌==◌, nat_lt, codes, decimal, vec_len}
+use Rattle.std.specs.Prelude.{◌≡◌, ℕ, zero, suc, ◌+◌, List, [], ◌∷◌, ◌++◌, length, Some, None, Option, if◌then◌else◌, ◌==◌, nat_lt, codes, decimal, vec_len}
 use Rattle.std.specs.List.{flat_map}
 use Rattle.ring.specs.declared.Link.{Link}
 use Rattle.ring.specs.declared.Side.{Side}
@@ -45,11 +45,15 @@ abbrev pub indent : ℕ → List ℕ
 indent zero = []
 indent (suc k) = indent k ++ codes "  "
 
--- the line of a piece
+-- what a piece's line says
+abbrev pub line_text : List Side → ℕ → Piece → List ℕ
+line_text sides number piece =
+    codes "piece " ++ (decimal number ++ (codes ", level " ++ (decimal piece.level ++ (codes ": "
+    ++ (content_text sides piece ++ (edges_text (listed piece.edges) ++ codes "\n"))))))
+
+-- the line of a piece, two blanks in for each level
 unfoldable pub piece_text : List Side → ℕ → Piece → List ℕ
-piece_text sides number piece =
-    indent piece.level ++ (codes "piece " ++ (decimal number ++ (codes ", level " ++ (decimal piece.level ++ (codes ": "
-    ++ (content_text sides piece ++ (edges_text (listed piece.edges) ++ codes "\n")))))))
+piece_text sides number piece = indent piece.level ++ line_text sides number piece
 
 -- the lines of pieces, the first of which has this number
 abbrev pub lines_from : List Side → ℕ → List Piece → List ℕ

@@ -2,7 +2,7 @@
 ghost use Rattle.std.specs.Prelude.{◌≡◌};
 ghost use Rattle.records.specs.Few.{listed};
 ghost use Rattle.plan_text.specs.Pages.{GrownBy, GrownByA};
-ghost use Rattle.plan_text.specs.Trees.{content_text, edges_text, ends_text, fault_text, faulty_link, piece_text, reason, SummaryText, tree_text};
+ghost use Rattle.plan_text.specs.Trees.{content_text, edges_text, ends_text, fault_text, faulty_link, link_ends_text, link_text, piece_text, reason, SummaryText, tree_text};
 
 use crate::laid::{Laid, deepest, most_holders};
 use crate::page::Page;
@@ -100,20 +100,34 @@ fn link_fault(fault: PlanFault) -> (&'static str, Option<usize>)
     }
 }
 
+// Writes the two ends of the link i, if there is such a link.
+fn write_link_ends(page: &mut Page, links: &[Link], i: usize)
+    ensures { GrownBy page.old page.new (link_ends_text links.now i) }
+{
+    if i < links.len() {
+        page.say(" (", links[i].from as usize, " ");
+        page.say("", links[i].to as usize, ")");
+    }
+}
+
+// Writes which link it is, if it is one.
+fn write_link(page: &mut Page, links: &[Link], index: Option<usize>)
+    ensures { GrownBy page.old page.new (link_text links.now index) }
+{
+    if let Some(i) = index {
+        page.say("link ", i, "");
+        write_link_ends(page, links, i);
+        page.word(": ");
+    }
+}
+
 // Writes why a plan is refused: the number, and the link with its index.
 pub fn write_fault(page: &mut Page, links: &[Link], fault: PlanFault)
     ensures { GrownBy page.old page.new (fault_text links.now fault) }
 {
     let (why, index) = link_fault(fault);
     page.say("refused, number ", fault.number() as usize, ": ");
-    if let Some(i) = index {
-        page.say("link ", i, "");
-        if i < links.len() {
-            page.say(" (", links[i].from as usize, " ");
-            page.say("", links[i].to as usize, ")");
-        }
-        page.word(": ");
-    }
+    write_link(page, links, index);
     page.word(why);
     page.word("\n");
 }

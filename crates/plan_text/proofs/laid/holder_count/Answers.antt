@@ -1,5 +1,4 @@
 use Rattle.std.proofs.Common.{refl}
-use Rattle.std.proofs.lemmas.List.{length-replicate}
 use Rattle.plan_text.proofs.Holders.{walked_length}
 use Rattle.plan_text.proofs.laid.holder_count.Goals as goal
 

@@ -1,5 +1,4 @@
-use Rattle.std.proofs.Common.{◌≡◌, length, arith, subst, ℕ, ◌<◌, ◌≤◌}
-use Rattle.plan_text.specs.Laid.{leaf_of, way_length}
+use Rattle.std.proofs.Common.{arith}
 use Rattle.plan_text.proofs.Holders.{most_holders_is}
 use Rattle.plan_text.proofs.laid.most_holders.Goals as goal
 

@@ -3,7 +3,7 @@ use Rattle.std.proofs.Math.Seq.{take-length}
 use Rattle.records.specs.Few.{listed}
 use Rattle.plan_text.specs.Trees.{edges_text, spaced}
 use Rattle.plan_text.proofs.Pages.{GrownBy-nil, GrownBy-append, GrownBy-same}
-use Rattle.plan_text.proofs.Trees.{edges_none, edges_some, spaced_more}
+use Rattle.plan_text.proofs.Trees.{edges_some, spaced_more}
 use Rattle.plan_text.proofs.tree.write_edges.Goals as goal
 
 pub loop-k-init : goal.loop-k-init
