@@ -1,6 +1,6 @@
 -- How long a sine is, and what writing in steps puts on a page.
 -- Assumes nothing.
-use Rattle.std.proofs.Common.{◌≡◌, ℕ, ◌+◌, ◌-◌, ◌*◌, ◌/◌, ◌<◌, ◌≤◌, ◌⊎◌, inl, inr, List, [], ◌∷◌,  ◌++◌, ap, subst, sym, ◌∙◌, arith}
+use Rattle.std.proofs.Common.{◌≡◌, ℕ, ◌+◌, ◌-◌, ◌*◌, ◌/◌, ◌<◌, ◌≤◌, inl, inr, List, [], ◌∷◌, ◌++◌, ap, subst, sym, ◌∙◌, arith}
 use Rattle.std.proofs.lemmas.Bool.{cases_lt}
 use Rattle.std.proofs.lemmas.Nat.{div_below}
 use Rattle.std.proofs.Math.Nat.{mul_comm}
@@ -26,21 +26,21 @@ quotient_below p h =
 
 pub product_small : (a : ℕ) → a * (1800 - a) ≤ 810000
 product_small a = elim (cases_lt a 901) [
-    | inl few ↦
-        let with : a + (900 - a) ≡ 900 = omega arith in
-        let rest : 1800 - a ≡ 900 + (900 - a) = omega arith in
-        subst (λ (z : ℕ). a * z ≤ 810000) (sym rest) (product_below 900 a (900 - a) with)
-    | inr many ↦ elim (cases_lt a 1801) [
-        | inl less ↦
-            let with : (1800 - a) + (a - 900) ≡ 900 = omega arith in
-            let rest : a ≡ 900 + (a - 900) = omega arith in
-            let turned : (1800 - a) * (900 + (a - 900)) ≤ 810000 = product_below 900 (1800 - a) (a - 900) with in
-            let same : a * (1800 - a) ≡ (1800 - a) * (900 + (a - 900)) = mul_comm a (1800 - a) ∙ ap (λ (z : ℕ). (1800 - a) * z) rest in
-            subst (λ (z : ℕ). z ≤ 810000) (sym same) turned
-        | inr past ↦
-            let none : 1800 - a ≡ 0 = omega arith in
-            subst (λ (z : ℕ). a * z ≤ 810000) (sym none) (omega arith)
-    ]
+  | inl few ↦
+      let with : a + (900 - a) ≡ 900 = omega arith in
+      let rest : 1800 - a ≡ 900 + (900 - a) = omega arith in
+      subst (λ (z : ℕ). a * z ≤ 810000) (sym rest) (product_below 900 a (900 - a) with)
+  | inr many ↦ elim (cases_lt a 1801) [
+    | inl less ↦
+        let with : (1800 - a) + (a - 900) ≡ 900 = omega arith in
+        let rest : a ≡ 900 + (a - 900) = omega arith in
+        let turned : (1800 - a) * (900 + (a - 900)) ≤ 810000 = product_below 900 (1800 - a) (a - 900) with in
+        let same : a * (1800 - a) ≡ (1800 - a) * (900 + (a - 900)) = mul_comm a (1800 - a) ∙ ap (λ (z : ℕ). (1800 - a) * z) rest in
+        subst (λ (z : ℕ). z ≤ 810000) (sym same) turned
+    | inr past ↦
+        let none : 1800 - a ≡ 0 = omega arith in
+        subst (λ (z : ℕ). a * z ≤ 810000) (sym none) (omega arith)
+  ]
 ]
 
 -- no sine is longer than the radius
