@@ -128,7 +128,8 @@ fn write_seam(page: &mut Page, laid: &Laid, piece: Piece)
 
 // Broad lines below the sides, one for each seam.
 fn write_seams(page: &mut Page, laid: &Laid)
-    ensures { GrownBy page.old page.new (seams_text laid.now.terminals laid.now.sides.items laid.now.pieces.items) }
+    ensures { GrownBy page.old page.new
+        (seams_text laid.now.terminals laid.now.sides.items laid.now.pieces.items) }
 {
     for piece in laid.pieces.iter() {
         if piece.first > 0 {
