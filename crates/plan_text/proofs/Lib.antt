@@ -1,3 +1,5 @@
+pub mod Circles
+pub mod Drawing
 pub mod Pages
 pub mod Holders
 pub mod Accepted
