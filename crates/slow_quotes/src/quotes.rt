@@ -2,7 +2,7 @@
 ghost use Rattle.std.specs.Prelude.{◌≡◌, ℕ, ◌*◌, map, length, IfOk, MatchResult};
 ghost use Rattle.slow.specs.Areas.{Few};
 ghost use Rattle.slow_quotes.specs.declared.quotes.Fault.TheVariants.{Refused};
-ghost use Rattle.slow_quotes.specs.Networks.{Answered, LaneFits, LaneFault, LaneChanged, PairFault, CountFault, Within, InOrder, EmptyArea, shown};
+ghost use Rattle.slow_quotes.specs.Networks.{Answered, LaneFits, LaneFault, LaneChanged, PairFault, CountFault, Within, InOrder, EmptyArea, shown, without_quotation};
 
 use crate::order::{Order, read_order};
 use offers::written::Written;
@@ -135,6 +135,16 @@ struct Held<R> {
     table: Vec<R>,
 }
 
+// The answer to an order that asks for no rate.
+fn no_quotation<R>(answer: Result<(), Fault>) -> Result<Option<Quotation<R>>, Fault>
+    ensures { result ≡ without_quotation answer }
+{
+    match answer {
+        Ok(()) => Ok(None),
+        Err(fault) => Err(fault),
+    }
+}
+
 // Carries out an order.
 fn carry_out<R: Rate>(
     heap: Global,
@@ -145,38 +155,28 @@ fn carry_out<R: Rate>(
     ensures answer { IfOk result (Answered R.kind R.means (shown R.kind net.old.n (map R.means net.old.lanes.items)) order (shown R.kind net.new.n (map R.means net.new.lanes.items))) }
     ensures in_order { IfOk result (λ _. InOrder R.kind net.new.n (map R.means net.new.lanes.items) (map R.means net.new.table.items)) }
 {
-    let answer = match order {
+    match order {
         Order::Terminals(n) => {
             net.lanes = empty_area(heap, n)?;
             net.table = empty_area(heap, n)?;
             net.n = n;
-            fill(n, net.lanes.as_slice(), net.table.as_mut_slice())
+            let lanes = net.lanes.as_slice();
+            Ok(no_quotation(fill(n, lanes, net.table.as_mut_slice())))
         }
-        Order::Lane(from, to, rate) => post(
-            net.n,
-            net.lanes.as_mut_slice(),
-            net.table.as_mut_slice(),
-            from,
-            to,
-            rate,
-        ),
-        Order::Shut(from, to) => shut(
-            net.n,
-            net.lanes.as_mut_slice(),
-            net.table.as_mut_slice(),
-            from,
-            to,
-        ),
-        Order::Quote(from, to) => {
-            return match best_rate(net.n, net.table.as_slice(), from, to) {
-                Ok(rate) => Ok(Ok(Some(Quotation { from, to, rate }))),
-                Err(why) => Ok(Err(Fault::Refused(why))),
-            };
+        Order::Lane(from, to, rate) => {
+            let lanes = net.lanes.as_mut_slice();
+            let posted = post(net.n, lanes, net.table.as_mut_slice(), from, to, rate);
+            Ok(no_quotation(posted))
         }
-    };
-    match answer {
-        Ok(()) => Ok(Ok(None)),
-        Err(fault) => Ok(Err(fault)),
+        Order::Shut(from, to) => {
+            let lanes = net.lanes.as_mut_slice();
+            let taken = shut(net.n, lanes, net.table.as_mut_slice(), from, to);
+            Ok(no_quotation(taken))
+        }
+        Order::Quote(from, to) => match best_rate(net.n, net.table.as_slice(), from, to) {
+            Ok(rate) => Ok(Ok(Some(Quotation { from, to, rate }))),
+            Err(why) => Ok(Err(Fault::Refused(why))),
+        },
     }
 }
 
