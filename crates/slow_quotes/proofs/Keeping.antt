@@ -1,8 +1,9 @@
 -- What keeps a network's area and table in order: setting lanes, and filling the table of a network without lanes.
 -- Assumes the laws of the kind.
-use Rattle.std.proofs.Common.{◌≡◌, ℕ, ◌+◌, ◌*◌, ◌<◌, ◌≤◌, Bool, true, false, cond, ◌&&◌, ltb, ◌⊎◌, List, [], map, length, get_or, Ok, Err, None, Some, Option, Result, sym, refl, ap, ◌∙◌, subst, inl, inr, ⊎_elim, arith}
+use Rattle.std.proofs.Common.{◌≡◌, ℕ, ◌+◌, ◌*◌, ◌<◌, ◌≤◌, Bool, true, false, cond, ◌&&◌, ltb, ◌⊎◌, List, [], map, length, take, ◌++◌, Ok, Err, None, Some, Option, Result, sym, refl, ap, ◌∙◌, subst, inl, inr, ⊎_elim, arith}
 use Rattle.std.specs.Result.{MatchResult, IsErrAnd}
 use Rattle.std.proofs.lemmas.Bool.{cases_Bool, both_ways, cond-true, cond-false}
+use Rattle.std.proofs.Math.Seq.{take-append_seam}
 use Rattle.std.proofs.lemmas.List.{length-map, nil_from_length}
 use Rattle.rates.specs.Kinds.{Kind, Laws}
 use Rattle.trips.specs.Trips.{LaneMap, Trip, lanes, Earning, NoEarning, BestRate, changed}
@@ -12,9 +13,16 @@ use Rattle.trips.proofs.Shown.{shutting_never_earns}
 use Rattle.slow.specs.Areas.{most_terminals, Few, InArea, PairRefused, at, entry, lane_map, LaneOrNone, LaneArea, BestTable, Settled, AreasRefused, Tested, LaneSet}
 use Rattle.slow.specs.declared.refusal.Refusal.{Refusal}
 use Rattle.slow.specs.declared.refusal.Refusal.TheVariants.{NoTerminals, TooManyTerminals, WrongLength, NoRate, NoTerminal, NoLaneRate}
+use Rattle.slow_quotes.specs.declared.order.Order.{Order}
+use Rattle.slow_quotes.specs.declared.order.Order.TheVariants.{Terminals, Lane, Shut, Quote}
+use Rattle.slow_quotes.specs.declared.quotes.Quotation.{Quotation}
 use Rattle.slow_quotes.specs.declared.quotes.Fault.{Fault}
 use Rattle.slow_quotes.specs.declared.quotes.Fault.TheVariants.{Refused}
-use Rattle.slow_quotes.specs.Networks.{CountFault, LaneChanged, LaneFits, WithoutLanes, shown, Filled, InOrder, EmptyArea}
+use Rattle.slow_quotes.specs.Networks.{Network, Within, PairFault, CountFault, LaneChanged, LaneFault, LaneFits, Answered, without_quotation, WithoutLanes, shown, Filled, InOrder, EmptyArea}
+
+-- a list that is written back into a vector of its length
+pub written_back : {A : Type 0} (n : ℕ) (new rest : List A) → length new ≡ n → take n (new ++ rest) ≡ new
+written_back n new rest e = ap (λ k. take k (new ++ rest)) (sym e) ∙ take-append_seam new rest
 
 -- a refusal that is handed on as a fault
 pub handed_on : {T : Type 0} (r : Result T Fault) (why : Refusal) (P : T → Type 0) (Q : Fault → Type 0) → IsErrAnd r (λ fault. fault ≡ Refused why) → Q (Refused why) → MatchResult r P Q
@@ -141,3 +149,33 @@ module _ {M : Type 0} (K : Kind M) where
           let f = filled_from h i.few in
           let d = t (map means lanes) f.shows f.none_earns f.best in
           (d.0, λ z e. both_ways earns z (d.1 e))
+
+    -- what the order on a lane is answered with
+    pub lane_answered : (lanes lanes' : List V) (from to : ℕ) (rate : V) (r : Result (Unit {0}) Fault) → MatchResult r (λ _. LaneFits K (shown K n (map means lanes)) from to (means rate) × LaneChanged K (shown K n (map means lanes)) from to (means rate) (shown K n (map means lanes'))) (λ fault. LaneFault K (shown K n (map means lanes)) from to (means rate) fault × (lanes' ≡ lanes)) → Answered K means (shown K n (map means lanes)) (Lane from to rate) (shown K n (map means lanes')) (without_quotation r)
+    lane_answered lanes lanes' from to rate (Ok done) h = h
+    lane_answered lanes lanes' from to rate (Err fault) h = (h.0, ap (λ list. shown K n (map means list)) h.1)
+
+    pub shut_answered : (lanes lanes' : List V) (from to : ℕ) (r : Result (Unit {0}) Fault) → MatchResult r (λ _. Within (shown K n (map means lanes)) from to × LaneChanged K (shown K n (map means lanes)) from to K.none (shown K n (map means lanes'))) (λ fault. PairFault (shown K n (map means lanes)) from to fault × (lanes' ≡ lanes)) → Answered K means (shown K n (map means lanes)) (Shut from to) (shown K n (map means lanes')) (without_quotation r)
+    shut_answered lanes lanes' from to (Ok done) h = h
+    shut_answered lanes lanes' from to (Err fault) h = (h.0, ap (λ list. shown K n (map means list)) h.1)
+
+    pub terminals_answered : (before : Network M) (area : List M) → EmptyArea K n area → (r : Result (Unit {0}) Fault) → MatchResult r (λ _. Few n) (CountFault n) → Answered K means before (Terminals n) (shown K n area) (without_quotation r)
+    terminals_answered before area e (Ok done) h = (h, without_lanes n area e)
+    terminals_answered before area e (Err fault) h = (h, without_lanes n area e)
+
+    pub quote_answered : (lanes table : List V) (from to : ℕ) (rate : V) → InOrder K n (map means lanes) (map means table) → InArea n (length table) from to → means rate ≡ entry K n (map means table) from to → Answered K means (shown K n (map means lanes)) (Quote from to) (shown K n (map means lanes)) (Ok (Some (record { from = from; to = to; rate = rate })))
+    quote_answered lanes table from to rate h i e = (
+      pair_within n (length table) from to i,
+      refl,
+      refl,
+      subst (BestRate K (lane_map K n (map means lanes)) from to) (sym e) ((filled_from h i.few).best from to i.from_below i.to_below),
+      refl,
+    )
+
+    -- the same, by other names
+    pub answered_as : (before before' : Network M) (order order' : Order V) (after after' : Network M) (r r' : Result (Option (Quotation V)) Fault) → before ≡ before' → order ≡ order' → after ≡ after' → r ≡ r' → Answered K means before' order' after' r' → Answered K means before order after r
+    answered_as before before' order order' after after' r r' b p q e h =
+        subst (λ z. Answered K means z order after r) (sym b)
+        (subst (λ o. Answered K means before' o after r) (sym p)
+        (subst (λ a. Answered K means before' order' a r) (sym q)
+        (subst (λ x. Answered K means before' order' after' x) (sym e) h)))
