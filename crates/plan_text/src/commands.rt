@@ -1,6 +1,13 @@
 // The lines of the text that names plans.
+ghost use Rattle.std.specs.Prelude.{◌≡◌, ◌≢◌, ℕ, List, MatchOption};
+ghost use Rattle.plan_text.specs.Commands.{CommandIs, Names, TerminalOf, name_of};
+ghost use Rattle.plan_text.specs.declared.commands.Command.{Command};
+ghost use Rattle.shapes.specs.declared.Shape.{Shape as Form};
+ghost use Rattle.words.specs.Words.{Listed, NoNumeral};
+
 use ring::Link;
 use shapes::Shape;
+use words::{FewWords, number_of, up_to_four};
 
 // What a line asks for.
 #[derive(Clone, Copy)]
@@ -16,17 +23,17 @@ pub enum Command {
     Unknown,
 }
 
-fn read_number(word: Option<&str>) -> Option<usize> {
-    word?.parse::<usize>().ok()
-}
-
 // A terminal; every number past 65,535 is read as 65,535, which is no terminal of any plan.
-fn read_terminal(word: Option<&str>) -> Option<u16> {
-    Some(read_number(word)?.min(65535) as u16)
+fn read_terminal(word: &str) -> Option<u16>
+    ensures { MatchOption result (NoNumeral word.now) (TerminalOf word.now) }
+{
+    Some(number_of(word)?.min(65535) as u16)
 }
 
-fn read_shape(word: Option<&str>) -> Option<Shape> {
-    match word? {
+fn read_shape(word: &str) -> Option<Shape>
+    ensures { MatchOption result ((s : Form) → word.now ≢ name_of s) (λ s. word.now ≡ name_of s) }
+{
+    match word {
         "fan" => Some(Shape::Fan),
         "zigzag" => Some(Shape::Zigzag),
         "balanced" => Some(Shape::Balanced),
@@ -36,41 +43,27 @@ fn read_shape(word: Option<&str>) -> Option<Shape> {
     }
 }
 
-fn link_of(from: Option<&str>, to: Option<&str>) -> Option<Command> {
-    Some(Command::Link(Link {
-        from: read_terminal(from)?,
-        to: read_terminal(to)?,
-    }))
-}
-
-fn shape_of(shape: Option<&str>, terminals: Option<&str>) -> Option<Command> {
-    Some(Command::Shape(read_shape(shape)?, read_number(terminals)?))
-}
-
-fn plan_of(terminals: Option<&str>) -> Option<Command> {
-    Some(Command::Plan(read_number(terminals)?))
-}
-
-// The command that a name and up to two words after it make.
-fn named(name: &str, one: Option<&str>, two: Option<&str>) -> Option<Command> {
-    match name {
-        "plan" => if two.is_none() { plan_of(one) } else { None },
-        "link" => link_of(one, two),
-        "shape" => shape_of(one, two),
+// The command that the words of a line name, if they name one.
+fn named(words: FewWords<'_>) -> Option<Command>
+    ensures { (ws : List (List ℕ)) → Listed words.entry ws → MatchOption result ((c : Command) → Names ws c → ⊥) (Names ws) }
+{
+    match words {
+        FewWords::Blank => Some(Command::Blank),
+        FewWords::Two("plan", terminals) => Some(Command::Plan(number_of(terminals)?)),
+        FewWords::Three("link", from, to) => Some(Command::Link(Link {
+            from: read_terminal(from)?,
+            to: read_terminal(to)?,
+        })),
+        FewWords::Three("shape", shape, terminals) => {
+            Some(Command::Shape(read_shape(shape)?, number_of(terminals)?))
+        }
         _ => None,
     }
 }
 
 // What the line asks for.
-pub fn read_command(line: &str) -> Command {
-    let mut words = line.split_whitespace();
-    let Some(name) = words.next() else {
-        return Command::Blank;
-    };
-    let one = words.next();
-    let two = words.next();
-    if words.next().is_some() {
-        return Command::Unknown;
-    }
-    named(name, one, two).unwrap_or(Command::Unknown)
+pub fn read_command(line: &str) -> Command
+    ensures { CommandIs line.now result }
+{
+    named(up_to_four(line)).unwrap_or(Command::Unknown)
 }

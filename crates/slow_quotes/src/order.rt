@@ -1,5 +1,10 @@
 // The orders of the text, one to a line.
+ghost use Rattle.std.specs.Prelude.{ℕ, List};
+ghost use Rattle.slow_quotes.specs.Orders.{Means, OrderIs};
+ghost use Rattle.words.specs.Words.{Listed};
+
 use offers::written::Written;
+use words::{FewWords, number_of, up_to_four};
 
 // What a line orders of a network.
 #[derive(Clone, Copy)]
@@ -14,36 +19,26 @@ pub enum Order<R> {
     Quote(usize, usize),
 }
 
-// The number that a word writes, if there is a word and it writes one.
-fn read_number(word: Option<&str>) -> Option<usize> {
-    word?.parse::<usize>().ok()
+// The order that the words of a line name, if they name one.
+fn named<R: Written>(words: FewWords<'_>) -> Option<Order<R>>
+    ensures { (ws : List (List ℕ)) → Listed words.entry ws → Means R.Written.reads ws result }
+{
+    match words {
+        FewWords::Two("terminals", count) => Some(Order::Terminals(number_of(count)?)),
+        FewWords::Three("shut", from, to) => Some(Order::Shut(number_of(from)?, number_of(to)?)),
+        FewWords::Three("quote", from, to) => Some(Order::Quote(number_of(from)?, number_of(to)?)),
+        FewWords::Four("lane", from, to, rate) => Some(Order::Lane(
+            number_of(from)?,
+            number_of(to)?,
+            R::read(rate)?,
+        )),
+        _ => None,
+    }
 }
 
 // The order that a line writes, if it writes one.
-pub fn read_order<R: Written>(text: &str) -> Option<Order<R>> {
-    let mut words = text.split_whitespace();
-    let name = words.next()?;
-    let first = read_number(words.next())?;
-    let second = words.next();
-    let third = words.next();
-    if words.next().is_some() {
-        return None;
-    }
-    if name == "terminals" && second.is_none() {
-        return Some(Order::Terminals(first));
-    }
-    let second = read_number(second)?;
-    match third {
-        Some(word) => {
-            if name != "lane" {
-                return None;
-            }
-            Some(Order::Lane(first, second, R::read(word)?))
-        }
-        None => match name {
-            "shut" => Some(Order::Shut(first, second)),
-            "quote" => Some(Order::Quote(first, second)),
-            _ => None,
-        },
-    }
+pub fn read_order<R: Written>(text: &str) -> Option<Order<R>>
+    ensures { OrderIs R.Written.reads text.now result }
+{
+    named(up_to_four(text))
 }
