@@ -1,6 +1,6 @@
 -- The networks that orders make: what an order is answered with, and the network after it.
 -- Assumes nothing; the kind of rate is any.
-use Rattle.std.specs.Prelude.{◌≡◌, ℕ, ◌*◌, ◌<◌, ◌≤◌, true, false, ◌⊎◌, ◌≢◌, List, [], length, Some, None, Ok, Err, Option, Result}
+use Rattle.std.specs.Prelude.{◌≡◌, ℕ, ◌*◌, ◌<◌, ◌≤◌, true, false, ◌⊎◌, ◌≢◌, List, [], map, length, Some, None, Ok, Err, Option, Result}
 use Rattle.rates.specs.Kinds.{Kind}
 use Rattle.trips.specs.Trips.{LaneMap, Earning, NoEarning, BestRate, changed}
 use Rattle.slow.specs.Areas.{most_terminals, Few, InArea, PairRefused, at, lane_map, LaneArea, BestTable}
@@ -9,6 +9,7 @@ use Rattle.slow_quotes.specs.declared.order.Order.{Order}
 use Rattle.slow_quotes.specs.declared.order.Order.TheVariants.{Terminals, Lane, Shut, Quote}
 use Rattle.slow_quotes.specs.declared.quotes.Fault.{Fault}
 use Rattle.slow_quotes.specs.declared.quotes.Fault.TheVariants.{NoKind, NoOrder, SameTerminal, WouldEarn, Refused}
+use Rattle.slow_quotes.specs.declared.quotes.Held.{Held}
 use Rattle.slow_quotes.specs.declared.quotes.Quotation.{Quotation}
 
 -- a network: how many terminals it has, and its lanes
@@ -105,3 +106,10 @@ module _ {M : Type 0} (K : Kind M) where
     pub square : n ≤ most_terminals → length area ≡ n * n
     pub empty : most_terminals < n → area ≡ []
     pub holds_none : (k : ℕ) → at K area k ≡ K.none
+
+  -- the network that is held, and that what is held of it is in order
+  abbrev pub network_of : {V : Type 0} → (V → M) → Held V → Network M
+  network_of means held = shown held.n (map means held.lanes.items)
+
+  abbrev pub Kept : {V : Type 0} → (V → M) → Held V → Type 0
+  Kept means held = InOrder held.n (map means held.lanes.items) (map means held.table.items)

@@ -1,8 +1,9 @@
 // The networks that the lines of the text make, and the text that the lines are answered with.
-ghost use Rattle.std.specs.Prelude.{◌≡◌, ℕ, ◌*◌, map, length, IfOk, MatchResult};
+ghost use Rattle.std.specs.Prelude.{◌≡◌, ℕ, ◌*◌, map, IfOk, MatchResult, Decides, string_bytes};
 ghost use Rattle.slow.specs.Areas.{Few};
 ghost use Rattle.slow_quotes.specs.declared.quotes.Fault.TheVariants.{Refused};
-ghost use Rattle.slow_quotes.specs.Networks.{Answered, LaneFits, LaneFault, LaneChanged, PairFault, CountFault, Within, InOrder, EmptyArea, shown, without_quotation};
+ghost use Rattle.slow_quotes.specs.Networks.{Answered, LaneFits, LaneFault, LaneChanged, PairFault, CountFault, Within, InOrder, EmptyArea, Kept, shown, network_of, without_quotation};
+ghost use Rattle.slow_quotes.specs.Quotes.{reason, fault_text, quotation_text, kindless_text, LineAnswered, Quoted, NamesKind, Told};
 
 use crate::order::{Order, read_order};
 use offers::written::Written;
@@ -40,7 +41,9 @@ impl From<Refusal> for Fault {
 }
 
 // What is printed of a fault.
-fn explain(fault: Fault) -> &'static str {
+fn explain(fault: Fault) -> &'static str
+    ensures { result.now ≡ reason fault }
+{
     match fault {
         Fault::NoKind => "no kind of rate is named yet",
         Fault::NoOrder => "no order",
@@ -151,9 +154,9 @@ fn carry_out<R: Rate>(
     net: &mut Held<R>,
     order: Order<R>,
 ) -> Result<Result<Option<Quotation<R>>, Fault>, AllocError>
-    requires { InOrder R.kind net.old.n (map R.means net.old.lanes.items) (map R.means net.old.table.items) }
-    ensures answer { IfOk result (Answered R.kind R.means (shown R.kind net.old.n (map R.means net.old.lanes.items)) order (shown R.kind net.new.n (map R.means net.new.lanes.items))) }
-    ensures in_order { IfOk result (λ _. InOrder R.kind net.new.n (map R.means net.new.lanes.items) (map R.means net.new.table.items)) }
+    requires { Kept R.kind R.means net.old }
+    ensures answer { IfOk result (Answered R.kind R.means (network_of R.kind R.means net.old) order (network_of R.kind R.means net.new)) }
+    ensures kept { IfOk result (λ _. Kept R.kind R.means net.new) }
 {
     match order {
         Order::Terminals(n) => {
@@ -181,7 +184,9 @@ fn carry_out<R: Rate>(
 }
 
 // What is answered to a quote: the rate between two terminals.
-fn quotation_text<R: Written>(heap: Global, quotation: Quotation<R>) -> Result<String, AllocError> {
+fn quotation_text<R: Written>(heap: Global, quotation: Quotation<R>) -> Result<String, AllocError>
+    ensures { IfOk result (λ s. string_bytes s ≡ quotation_text R.kind R.means R.Written.reads R.Written.text quotation) }
+{
     let from = quotation.from;
     let to = quotation.to;
     let rate = quotation.rate.show(heap)?;
@@ -189,13 +194,19 @@ fn quotation_text<R: Written>(heap: Global, quotation: Quotation<R>) -> Result<S
 }
 
 // What is answered to a line at fault.
-fn fault_text(heap: Global, line: usize, fault: Fault) -> Result<String, AllocError> {
+fn fault_text(heap: Global, line: usize, fault: Fault) -> Result<String, AllocError>
+    ensures { IfOk result (λ s. string_bytes s ≡ fault_text line fault) }
+{
     let why = explain(fault);
     format!(in heap; "line {line}: {why}\n")
 }
 
 // What a line is answered with.
-fn said<R: Written>(heap: Global, net: &mut Held<R>, line: &Line) -> Result<String, AllocError> {
+fn said<R: Written>(heap: Global, net: &mut Held<R>, line: &Line) -> Result<String, AllocError>
+    requires { Kept R.kind R.means net.old }
+    ensures answer { IfOk result (λ s. LineAnswered R.kind R.means R.Written.reads R.Written.text (network_of R.kind R.means net.old) line.now (network_of R.kind R.means net.new) (string_bytes s)) }
+    ensures kept { IfOk result (λ _. Kept R.kind R.means net.new) }
+{
     let Some(order) = read_order::<R>(line.text.as_str()) else {
         return fault_text(heap, line.number, Fault::NoOrder);
     };
@@ -207,7 +218,9 @@ fn said<R: Written>(heap: Global, net: &mut Held<R>, line: &Line) -> Result<Stri
 }
 
 // What lines under the name of a kind are answered with, from a network without terminals on.
-pub fn quoted<R: Written>(heap: Global, lines: &[Line]) -> Result<String, AllocError> {
+pub fn quoted<R: Written>(heap: Global, lines: &[Line]) -> Result<String, AllocError>
+    ensures { IfOk result (λ s. Quoted R.kind R.means R.Written.reads R.Written.text lines.now (string_bytes s)) }
+{
     let mut text = String::new(heap);
     let mut net = Held {
         n: 0,
@@ -221,7 +234,9 @@ pub fn quoted<R: Written>(heap: Global, lines: &[Line]) -> Result<String, AllocE
 }
 
 // What lines above the name of a kind are answered with: each is at fault.
-fn nothing_quoted(heap: Global, lines: &[Line]) -> Result<String, AllocError> {
+fn nothing_quoted(heap: Global, lines: &[Line]) -> Result<String, AllocError>
+    ensures { IfOk result (λ s. string_bytes s ≡ kindless_text lines.now) }
+{
     let mut text = String::new(heap);
     for line in lines {
         text.push_str(fault_text(heap, line.number, Fault::NoKind)?.as_str())?;
@@ -230,7 +245,9 @@ fn nothing_quoted(heap: Global, lines: &[Line]) -> Result<String, AllocError> {
 }
 
 // The name of a kind, and what the lines below it are answered with.
-pub fn told(heap: Global, kind: &str, lines: &[Line]) -> Result<String, AllocError> {
+pub fn told(heap: Global, kind: &str, lines: &[Line]) -> Result<String, AllocError>
+    ensures { IfOk result (λ s. Told (Quoted ⟦<Cents as Rate>⟧.kind ⟦<Cents as Rate>⟧.means ⟦<Cents as Written>⟧.reads ⟦<Cents as Written>⟧.text) (Quoted ⟦<Tonnes as Rate>⟧.kind ⟦<Tonnes as Rate>⟧.means ⟦<Tonnes as Written>⟧.reads ⟦<Tonnes as Written>⟧.text) (Quoted ⟦<Pair<Cents, Tonnes> as Rate>⟧.kind ⟦<Pair<Cents, Tonnes> as Rate>⟧.means ⟦<Pair<Cents, Tonnes> as Written>⟧.reads ⟦<Pair<Cents, Tonnes> as Written>⟧.text) kind.now lines.now (string_bytes s)) }
+{
     let answers = match kind {
         "cents" => quoted::<Cents>(heap, lines)?,
         "tonnes" => quoted::<Tonnes>(heap, lines)?,
@@ -241,6 +258,8 @@ pub fn told(heap: Global, kind: &str, lines: &[Line]) -> Result<String, AllocErr
 }
 
 // Whether a line names a kind of rate.
-pub fn names_kind(text: &str) -> bool {
+pub fn names_kind(text: &str) -> bool
+    ensures { Decides result (NamesKind text.now) }
+{
     text == "cents" || text == "tonnes" || text == "cents before tonnes"
 }

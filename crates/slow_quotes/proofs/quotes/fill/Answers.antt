@@ -14,7 +14,7 @@ returns g c =
       answer = h.1.area_shows.few;
       in_order = record {
         either = inl (filled_empty g.R.Rate.kind g.met.R.Rate.laws m c.args.n (map m c.args.lanes.now) c.args.table.now c.best_rates.new.table
-        c.in_ok-best_rates.field-0 c.requires.0 h.0 c.best_rates.auto.table h.1);
+            c.in_ok-best_rates.field-0 c.requires.0 h.0 c.best_rates.auto.table h.1);
       };
     }
 

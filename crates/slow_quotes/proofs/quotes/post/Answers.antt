@@ -23,7 +23,7 @@ returns g c =
         lane_changed K X m n lanes table c.requires c.set_lane.new.lanes from to rate s,
       );
       in_order = set_in_order K X m n lanes table c.requires c.set_lane.new.lanes c.best_rates.new.table from to rate c.in_ok-best_rates.field-0
-      ne s c.best_rates.auto.table c.in_ok-best_rates.ensures.1;
+          ne s c.best_rates.auto.table c.in_ok-best_rates.ensures.1;
     }
 
 pub returns-in_err-would_earn : goal.returns-in_err-would_earn
@@ -51,7 +51,7 @@ returns-then-branch g c =
           pair_within n _ c.args.from c.args.to t.0,
           t.1,
           (tested_is g.R.Rate.kind g.met.R.Rate.laws g.R.Rate.means n c.args.lanes.now c.args.table.now c.requires c.args.from c.args.to (g.R.Rate.means c.args.rate)
-          c.in_ok-would_earn.field-0 t.0 t.2).0 c.if-branch.true,
+              c.in_ok-would_earn.field-0 t.0 t.2).0 c.if-branch.true,
         ),
         refl,
       );

@@ -19,8 +19,8 @@ returns g c =
     record {
       answer = (pair_within n _ from to s.in_area, lane_changed K X m n lanes table c.requires c.set_lane.new.lanes from to K.none s);
       in_order = set_in_order K X m n lanes table c.requires c.set_lane.new.lanes c.best_rates.new.table from to K.none c.in_ok-best_rates.field-0
-      (shutting_never_earns K X (lane_map K n (map m lanes)) (filled_from K c.requires s.in_area.few).none_earns from to)
-      s c.best_rates.auto.table c.in_ok-best_rates.ensures.1;
+          (shutting_never_earns K X (lane_map K n (map m lanes)) (filled_from K c.requires s.in_area.few).none_earns from to)
+          s c.best_rates.auto.table c.in_ok-best_rates.ensures.1;
     }
 
 pub returns-in_err-set_lane : goal.returns-in_err-set_lane
