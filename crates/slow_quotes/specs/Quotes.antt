@@ -69,12 +69,14 @@ module _ {M V : Type 0} (K : Kind M) (means : V → M) (Reads : List ℕ → Opt
       (between : Network M) × (first : List ℕ) × (others : List ℕ)
       × LineAnswered before line between first × LinesAnswered between lines after others × (said ≡ first ++ others)
 
-  -- what lines below the name of a kind are answered with: at first there is a network without terminals
-  pub record Quoted (lines : List Line) (said : List ℕ) : Type 0 where
+  -- the same for lines below the name of a kind: at first there is a network without terminals
+  pub record QuotedUpTo (lines : List Line) (last : Network M) (said : List ℕ) : Type 0 where
     pub first : Network M
-    pub last : Network M
     pub begins : WithoutLanes K 0 first
     pub answered : LinesAnswered first lines last said
+
+  abbrev pub Quoted : List Line → List ℕ → Type 0
+  Quoted lines said = (last : Network M) × QuotedUpTo lines last said
 
 -- the names of the kinds
 abbrev pub cents_name : List ℕ
