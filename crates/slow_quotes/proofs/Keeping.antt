@@ -1,6 +1,6 @@
 -- What keeps a network's area and table in order: setting lanes, and filling the table of a network without lanes.
 -- Assumes the laws of the kind.
-use Rattle.std.proofs.Common.{◌≡◌, ℕ, ◌+◌, ◌*◌, ◌<◌, ◌≤◌, Bool, true, false, cond, ◌&&◌, ltb, ◌⊎◌, List, [], map, length, take, ◌++◌, Ok, Err, None, Some, Option, Result, sym, refl, ap, ◌∙◌, subst, inl, inr, ⊎_elim, arith}
+use Rattle.std.proofs.Common.{◌≡◌, ℕ, ◌+◌, ◌*◌, ◌<◌, ◌≤◌, Bool, true, false, cond, ◌&&◌, ltb, ◌⊎◌, ◌≢◌, List, [], map, length, take, ◌++◌, Ok, Err, None, Some, Option, Result, sym, refl, ap, ◌∙◌, subst, inl, inr, ⊎_elim, arith}
 use Rattle.std.specs.Result.{MatchResult, IsErrAnd}
 use Rattle.std.proofs.lemmas.Bool.{cases_Bool, both_ways, cond-true, cond-false}
 use Rattle.std.proofs.Math.Seq.{take-append_seam}
@@ -121,6 +121,16 @@ module _ {M : Type 0} (K : Kind M) where
 
       pub lane_places : Few n → length lanes ≡ n * n
       lane_places few = sym (length-map lanes means) ∙ (filled_from h few).shows.square
+
+      -- why a lane is not tested
+      pub lane_fault : (from to : ℕ) (rate : M) (why : Refusal) → (from ≢ to) → PairRefused n (length table) from to why ⊎ ((why ≡ NoLaneRate) × InArea n (length table) from to × (K.lane rate ≡ false)) → LaneFault K (shown K n (map means lanes)) from to rate (Refused why)
+      lane_fault from to rate why apart (inl z) = (apart, inl (pair_refused n (length table) from to table_places why z))
+      lane_fault from to rate why apart (inr z) = (apart, inr (z.0, pair_within n (length table) from to z.1, z.2))
+
+      -- why a lane is not taken away
+      pub shut_fault : (from to : ℕ) (rate : M) (why : Refusal) → rate ≡ K.none → PairRefused n (length lanes) from to why ⊎ ((why ≡ NoLaneRate) × InArea n (length lanes) from to × (LaneOrNone K rate → ⊥)) → PairFault (shown K n (map means lanes)) from to (Refused why)
+      shut_fault from to rate why e (inl z) = pair_refused n (length lanes) from to lane_places why z
+      shut_fault from to rate why e (inr z) = absurd (z.2 (inl e))
 
       -- after a lane was set and the table filled
       pub set_in_order : (lanes' table' : List V) (from to : ℕ) (rate : M) (earns : Bool) → NoEarning K (changed K (lane_map K n (map means lanes)) from to rate) → LaneSet K means n lanes lanes' from to rate → length table' ≡ length table → Settled K n (map means lanes') (map means table') earns → InOrder K n (map means lanes') (map means table')

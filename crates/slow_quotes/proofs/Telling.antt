@@ -24,7 +24,7 @@ kindless_more lines i line v w h e p q =
 
 module _ {M V : Type 0} (K : Kind M) (means : V → M) (Reads : List ℕ → Option V → Type 0) (text : V → List ℕ) where
   -- the text that an order is answered with
-  pub order_answered : (before after : Network M) (line : Line) (order : Order V) (answer answer' : Result (Option (Quotation V)) Fault) {S E : Type 0} (bytes : S → List ℕ) (r : Result S E) → OrderIs Reads (string_bytes line.text) (Some order) → Answered K means before order after answer → answer ≡ answer' → IfOk r (λ s. bytes s ≡ answer_text K means Reads text line.number answer') → IfOk r (λ s. LineAnswered K means Reads text before line after (bytes s))
+  pub order_answered : (before after : Network M) (line : Line) (order : Order V) (answer answer' : Result (Option (Quotation V)) Fault) {S E : Type 0} (bytes : S → List ℕ) (r : Result S E) → OrderIs Reads (string_bytes line.text) (Some order) → Answered K means before order after answer → answer ≡ answer' → IfOk r (λ s. bytes s ≡ answer_text text line.number answer') → IfOk r (λ s. LineAnswered K means Reads text before line after (bytes s))
   order_answered before after line order answer answer' bytes (Ok s) w a e h =
       inr (record { order = order; answer = answer'; writes = w; answered = subst (Answered K means before order after) e a; text_is = h })
   order_answered before after line order answer answer' bytes (Err why) w a e h = tt

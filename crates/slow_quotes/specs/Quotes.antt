@@ -2,7 +2,12 @@
 -- Assumes nothing; the kind of rate is any, with its words and its text.
 use Rattle.std.specs.Prelude.{◌≡◌, ℕ, ◌⊎◌, ◌≢◌, List, [], ◌∷◌, ◌++◌, Some, None, Ok, Err, Option, Result, codes, decimal, string_bytes}
 use Rattle.std.specs.List.{flat_map}
+use Rattle.offers.specs.Words.{CentsRead, TonnesRead, PairRead, cents_text, tonnes_text}
+use Rattle.rates.specs.Amounts.{cents_kind}
 use Rattle.rates.specs.Kinds.{Kind}
+use Rattle.rates.specs.Loads.{tonnes_kind}
+use Rattle.rates.specs.Meanings.{amount_of, load_of}
+use Rattle.rates.specs.Pairs.{couple_of, pair_kind}
 use Rattle.slow.specs.declared.refusal.Refusal.TheVariants.{NoTerminals, TooManyTerminals, WrongLength, NoRate, NoTerminal, NoLaneRate}
 use Rattle.slow_quotes.specs.declared.order.Order.{Order}
 use Rattle.slow_quotes.specs.declared.quotes.Fault.{Fault}
@@ -33,17 +38,17 @@ fault_text number fault = codes "line " ++ (decimal number ++ (codes ": " ++ (re
 abbrev pub kindless_text : List Line → List ℕ
 kindless_text lines = flat_map (λ line. fault_text line.number NoKind) lines
 
+-- the text of a quoted rate
+abbrev pub quotation_text : {V : Type 0} → (V → List ℕ) → Quotation V → List ℕ
+quotation_text text q = decimal q.from ++ (codes " to " ++ (decimal q.to ++ (codes ": " ++ (text q.rate ++ codes "\n"))))
+
+-- what is printed of the answer to a line
+abbrev pub answer_text : {V : Type 0} → (V → List ℕ) → ℕ → Result (Option (Quotation V)) Fault → List ℕ
+answer_text text number (Ok None) = []
+answer_text text number (Ok (Some quotation)) = quotation_text text quotation
+answer_text text number (Err fault) = fault_text number fault
+
 module _ {M V : Type 0} (K : Kind M) (means : V → M) (Reads : List ℕ → Option V → Type 0) (text : V → List ℕ) where
-  -- the text of a quoted rate
-  abbrev pub quotation_text : Quotation V → List ℕ
-  quotation_text q = decimal q.from ++ (codes " to " ++ (decimal q.to ++ (codes ": " ++ (text q.rate ++ codes "\n"))))
-
-  -- what is printed of the answer to a line
-  abbrev pub answer_text : ℕ → Result (Option (Quotation V)) Fault → List ℕ
-  answer_text number (Ok None) = []
-  answer_text number (Ok (Some quotation)) = quotation_text quotation
-  answer_text number (Err fault) = fault_text number fault
-
   -- a line that writes no order is at fault and changes nothing
   pub record NoOrderWritten (before : Network M) (line : Line) (after : Network M) (said : List ℕ) : Type 0 where
     pub no_order : OrderIs Reads (string_bytes line.text) None
@@ -56,7 +61,7 @@ module _ {M V : Type 0} (K : Kind M) (means : V → M) (Reads : List ℕ → Opt
     pub answer : Result (Option (Quotation V)) Fault
     pub writes : OrderIs Reads (string_bytes line.text) (Some order)
     pub answered : Answered K means before order after answer
-    pub text_is : said ≡ answer_text line.number answer
+    pub text_is : said ≡ answer_text text line.number answer
 
   -- what a line is answered with, and the network after it
   abbrev pub LineAnswered : Network M → Line → Network M → List ℕ → Type 0
@@ -91,17 +96,27 @@ pairs_name = codes "cents before tonnes"
 abbrev pub NamesKind : List ℕ → Type 0
 NamesKind name = (name ≡ cents_name) ⊎ (name ≡ tonnes_name) ⊎ (name ≡ pairs_name)
 
-module _ (Cents Tonnes Pairs : List Line → List ℕ → Type 0) where
-  -- what lines are answered with, by the kind that is named above them
-  abbrev pub ByKind : List ℕ → List Line → List ℕ → Type 0
-  ByKind name lines said =
-      ((name ≡ cents_name) × Cents lines said)
-      ⊎ ((name ≡ tonnes_name) × Tonnes lines said)
-      ⊎ ((name ≡ pairs_name) × Pairs lines said)
-      ⊎ ((NamesKind name → ⊥) × (said ≡ kindless_text lines))
+abbrev pub CentsQuoted : List Line → List ℕ → Type 0
+CentsQuoted = Quoted cents_kind amount_of CentsRead cents_text
 
-  -- the name, and behind it what the lines are answered with
-  pub record Told (name : List ℕ) (lines : List Line) (said : List ℕ) : Type 0 where
-    pub answers : List ℕ
-    pub by_kind : ByKind name lines answers
-    pub text_is : said ≡ name ++ (codes "\n" ++ answers)
+abbrev pub TonnesQuoted : List Line → List ℕ → Type 0
+TonnesQuoted = Quoted tonnes_kind load_of TonnesRead tonnes_text
+
+abbrev pub PairsQuoted : List Line → List ℕ → Type 0
+PairsQuoted =
+    Quoted (pair_kind cents_kind tonnes_kind) (λ pair. couple_of cents_kind tonnes_kind (amount_of pair.first) (load_of pair.second))
+    (PairRead CentsRead TonnesRead) (λ pair. cents_text pair.first ++ (codes ", " ++ tonnes_text pair.second))
+
+-- what lines are answered with, by the kind that is named above them
+abbrev pub ByKind : List ℕ → List Line → List ℕ → Type 0
+ByKind name lines said =
+    ((name ≡ cents_name) × CentsQuoted lines said)
+    ⊎ ((name ≡ tonnes_name) × TonnesQuoted lines said)
+    ⊎ ((name ≡ pairs_name) × PairsQuoted lines said)
+    ⊎ ((NamesKind name → ⊥) × (said ≡ kindless_text lines))
+
+-- the name, and behind it what the lines are answered with
+pub record Told (name : List ℕ) (lines : List Line) (said : List ℕ) : Type 0 where
+  pub answers : List ℕ
+  pub by_kind : ByKind name lines answers
+  pub text_is : said ≡ name ++ (codes "\n" ++ answers)

@@ -185,7 +185,7 @@ fn carry_out<R: Rate>(
 
 // What is answered to a quote: the rate between two terminals.
 fn quotation_text<R: Written>(heap: Global, quotation: Quotation<R>) -> Result<String, AllocError>
-    ensures { IfOk result (λ s. string_bytes s ≡ quotation_text R.kind R.means R.Written.reads R.Written.text quotation) }
+    ensures { IfOk result (λ s. string_bytes s ≡ quotation_text R.Written.text quotation) }
 {
     let from = quotation.from;
     let to = quotation.to;
@@ -246,7 +246,7 @@ fn nothing_quoted(heap: Global, lines: &[Line]) -> Result<String, AllocError>
 
 // The name of a kind, and what the lines below it are answered with.
 pub fn told(heap: Global, kind: &str, lines: &[Line]) -> Result<String, AllocError>
-    ensures { IfOk result (λ s. Told (Quoted ⟦<Cents as Rate>⟧.kind ⟦<Cents as Rate>⟧.means ⟦<Cents as Written>⟧.reads ⟦<Cents as Written>⟧.text) (Quoted ⟦<Tonnes as Rate>⟧.kind ⟦<Tonnes as Rate>⟧.means ⟦<Tonnes as Written>⟧.reads ⟦<Tonnes as Written>⟧.text) (Quoted ⟦<Pair<Cents, Tonnes> as Rate>⟧.kind ⟦<Pair<Cents, Tonnes> as Rate>⟧.means ⟦<Pair<Cents, Tonnes> as Written>⟧.reads ⟦<Pair<Cents, Tonnes> as Written>⟧.text) kind.now lines.now (string_bytes s)) }
+    ensures { IfOk result (λ s. Told kind.now lines.now (string_bytes s)) }
 {
     let answers = match kind {
         "cents" => quoted::<Cents>(heap, lines)?,

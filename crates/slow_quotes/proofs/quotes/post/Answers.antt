@@ -1,6 +1,6 @@
 use Rattle.std.proofs.Common.{◌*◌, map, refl, inl, inr, ⊎_elim}
 use Rattle.slow_quotes.specs.Networks.{InOrder}
-use Rattle.slow_quotes.proofs.Keeping.{handed_on, pair_refused, pair_within, set_in_order, set_not_refused, pair_not_refused, lane_changed, tested_is, table_places, lane_places}
+use Rattle.slow_quotes.proofs.Keeping.{handed_on, lane_fault, pair_refused, pair_within, set_in_order, set_not_refused, pair_not_refused, lane_changed, tested_is, table_places, lane_places}
 use Rattle.slow_quotes.proofs.quotes.post.Goals as goal
 
 pub returns : goal.returns
@@ -28,15 +28,13 @@ returns g c =
 
 pub returns-in_err-would_earn : goal.returns-in_err-would_earn
 returns-in_err-would_earn g c =
-    let K = g.R.Rate.kind in
-    let n = c.args.n in
-    let from = c.args.from in
-    let to = c.args.to in
     let why = c.in_err-would_earn.field-0.0 in
-    let places = table_places K g.met.R.Rate.laws g.R.Rate.means n c.args.lanes.now c.args.table.now c.requires in
     record {
-      answer = handed_on c.from_residual.result why _ _ c.from_residual.ensures.1
-          ((c.if-from-to.false, ⊎_elim (λ z. inl (pair_refused n _ from to places why z)) (λ z. inr (z.0, pair_within n _ from to z.1, z.2)) c.in_err-would_earn.ensures), refl);
+      answer = handed_on c.from_residual.result why _ _ c.from_residual.ensures.1 (
+        lane_fault g.R.Rate.kind g.met.R.Rate.laws g.R.Rate.means c.args.n c.args.lanes.now c.args.table.now c.requires c.args.from c.args.to
+            (g.R.Rate.means c.args.rate) why c.if-from-to.false c.in_err-would_earn.ensures,
+        refl,
+      );
       in_order = c.requires;
     }
 

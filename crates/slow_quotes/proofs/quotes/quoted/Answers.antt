@@ -22,9 +22,9 @@ loop-line-preserved g c =
     record {
       kept = c.in_ok-said.ensures.kept;
       so_far = quoted_more K m g.R.Written.reads g.R.Written.text c.args.lines.now c.loop-line.line-index c.line-item.result
-      (network_of K m c.loop-line.net) (network_of K m c.said.new.net) (string_bytes c.loop-line.text) next (string_bytes c.push_str.new.self)
-      c.loop-line-test.true c.line-item.is c.loop-line.invariant.so_far c.in_ok-said.ensures.answer
-      (c.in_ok-push_str.ensures.bytes ∙ ap (λ b. string_bytes c.loop-line.text ++ b) c.as_str.ensures.value);
+          (network_of K m c.loop-line.net) (network_of K m c.said.new.net) (string_bytes c.loop-line.text) next (string_bytes c.push_str.new.self)
+          c.loop-line-test.true c.line-item.is c.loop-line.invariant.so_far c.in_ok-said.ensures.answer
+          (c.in_ok-push_str.ensures.bytes ∙ ap (λ b. string_bytes c.loop-line.text ++ b) c.as_str.ensures.value);
     }
 
 pub returns : goal.returns

@@ -6,5 +6,5 @@ use Rattle.slow_quotes.proofs.quotes.quoted.Given as goal
 abbrev pub invariant-loop-line : goal.invariant-loop-line
 invariant-loop-line g l = record {
   kept : Kept g.R.Rate.kind g.R.Rate.means l.net;
-  so_far : QuotedUpTo g.R.Rate.kind g.R.Rate.means g.R.Written.reads g.R.Written.text (take l.line-index l.lines) (network_of g.R.Rate.kind g.R.Rate.means l.net) (string_bytes l.text)
+  so_far : QuotedUpTo g.R.Rate.kind g.R.Rate.means g.R.Written.reads g.R.Written.text (take l.line-index l.lines) (network_of g.R.Rate.kind g.R.Rate.means l.net) (string_bytes l.text);
 }

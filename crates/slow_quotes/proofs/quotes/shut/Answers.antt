@@ -2,7 +2,7 @@ use Rattle.std.proofs.Common.{map, sym, subst, inl, ⊎_elim}
 use Rattle.trips.proofs.Shown.{shutting_never_earns}
 use Rattle.slow.specs.Areas.{LaneSet, lane_map}
 use Rattle.slow_quotes.specs.Networks.{InOrder}
-use Rattle.slow_quotes.proofs.Keeping.{handed_on, pair_refused, pair_within, filled_from, set_in_order, set_not_refused, lane_changed, lane_places}
+use Rattle.slow_quotes.proofs.Keeping.{handed_on, shut_fault, pair_refused, pair_within, filled_from, set_in_order, set_not_refused, lane_changed, lane_places}
 use Rattle.slow_quotes.proofs.quotes.shut.Goals as goal
 
 pub returns : goal.returns
@@ -30,10 +30,11 @@ returns-in_err-set_lane g c =
     let n = c.args.n in
     let h = c.in_err-set_lane.ensures in
     let why = c.in_err-set_lane.field-0.0 in
-    let places = lane_places K g.met.R.Rate.laws m n c.args.lanes.now c.args.table.now c.requires in
     record {
-      answer = handed_on c.from_residual.result why _ _ c.from_residual.ensures.1
-          (⊎_elim (pair_refused n _ c.args.from c.args.to places why) (λ z. absurd (z.2 (inl c.none.ensures))) h.1, h.0);
+      answer = handed_on c.from_residual.result why _ _ c.from_residual.ensures.1 (
+        shut_fault K g.met.R.Rate.laws m n c.args.lanes.now c.args.table.now c.requires c.args.from c.args.to (m c.none.result) why c.none.ensures h.1,
+        h.0,
+      );
       in_order = subst (λ lanes. InOrder K n (map m lanes) (map m c.args.table.now)) (sym h.0) c.requires;
     }
 
