@@ -4,7 +4,7 @@ use Rattle.std.proofs.Common.{◌≡◌, ℕ, ◌+◌, ◌*◌, ◌<◌, ◌≤�
 use Rattle.std.specs.Result.{MatchResult, IsErrAnd}
 use Rattle.std.proofs.lemmas.Bool.{cases_Bool, both_ways, cond-true, cond-false}
 use Rattle.std.proofs.Math.Seq.{take-append_seam}
-use Rattle.std.proofs.lemmas.List.{length-map, nil_from_length}
+use Rattle.std.proofs.lemmas.List.{length-map, get_or_past, nil_from_length}
 use Rattle.rates.specs.Kinds.{Kind, Laws}
 use Rattle.trips.specs.Trips.{LaneMap, Trip, lanes, Earning, NoEarning, BestRate, changed}
 use Rattle.trips.specs.Trips.Trip.{stay, go}
@@ -73,15 +73,26 @@ module _ {M : Type 0} (K : Kind M) where
   no_lanes_earn_not e h = some_lane_none e h.trip h.some_lane
 
   -- an area that holds none shows no lane
-  pub none_shown : (n : ℕ) (area : List M) → EmptyArea K n area → (u v : ℕ) → lane_map K n area u v ≡ K.none
+  none_shown : (n : ℕ) (area : List M) → ((k : ℕ) → at K area k ≡ K.none) → (u v : ℕ) → lane_map K n area u v ≡ K.none
   none_shown n area e u v =
       ⊎_elim
-      (λ z. cond-true (ltb u n && ltb v n) (entry K n area u v) K.none z ∙ e.holds_none (n * u + v))
+      (λ z. cond-true (ltb u n && ltb v n) (entry K n area u v) K.none z ∙ e (n * u + v))
       (λ z. cond-false (ltb u n && ltb v n) (entry K n area u v) K.none z)
       (cases_Bool (ltb u n && ltb v n))
 
+  pub none_held : (k : ℕ) → at K [] k ≡ K.none
+  none_held k = get_or_past [] k K.none (omega arith)
+
+  -- in a network that is held in order no closed trip earns
+  pub in_order_earns_not : (n : ℕ) (area table : List M) → InOrder K n area table → NoEarning K (lane_map K n area)
+  in_order_earns_not n area table h =
+      ⊎_elim
+      (λ f. f.none_earns)
+      (λ e. subst (λ list. NoEarning K (lane_map K n list)) (sym e.1) (no_lanes_earn_not (none_shown n [] none_held)))
+      h.either
+
   pub without_lanes : (n : ℕ) (area : List M) → EmptyArea K n area → WithoutLanes K n (shown K n area)
-  without_lanes n area e = record { terminals_are = refl; none_stands = none_shown n area e }
+  without_lanes n area e = record { terminals_are = refl; none_stands = none_shown n area e.holds_none }
 
   -- why the table of a network without lanes is not filled
   pub count_fault : (n : ℕ) (area table : List M) → EmptyArea K n area → EmptyArea K n table → (why : Refusal) → AreasRefused K n area (length table) why → CountFault n (Refused why)
@@ -111,8 +122,8 @@ module _ {M : Type 0} (K : Kind M) where
     filled_empty area before after earns a e l s = record {
       shows = s.area_shows;
       places = length-map after means ∙ l ∙ e;
-      none_earns = no_lanes_earn_not (none_shown n area a);
-      best = s.best (no_lanes_earn_not (none_shown n area a));
+      none_earns = no_lanes_earn_not (none_shown n area a.holds_none);
+      best = s.best (no_lanes_earn_not (none_shown n area a.holds_none));
     }
 
     module _ (lanes table : List V) (h : InOrder K n (map means lanes) (map means table)) where

@@ -2,7 +2,7 @@
 -- Assumes nothing.
 use Rattle.std.proofs.Common.{◌≡◌, ℕ, ◌+◌, ◌*◌, ◌<◌, ◌≤◌, List, [], ◌∷◌, ◌++◌, map, length, get_or, take, Ok, Err, Some, Option, Result, codes, string_bytes, sym, refl, ap, ◌∙◌, subst, inl, inr, append_assoc, arith}
 use Rattle.std.specs.Result.{IfOk}
-use Rattle.std.proofs.lemmas.List.{append-nil, flat_map_more, get_or_past, take_more}
+use Rattle.std.proofs.lemmas.List.{append-nil, flat_map_more, take_more}
 use Rattle.rates.specs.Kinds.{Kind}
 use Rattle.slow.specs.Areas.{Few, at}
 use Rattle.slow_quotes.specs.declared.order.Order.{Order}
@@ -13,7 +13,7 @@ use Rattle.slow_quotes.specs.declared.quotes.Quotation.{Quotation}
 use Rattle.slow_quotes.specs.Orders.{OrderIs}
 use Rattle.slow_quotes.specs.Networks.{Network, Answered, InOrder, EmptyArea, shown}
 use Rattle.slow_quotes.specs.Quotes.{fault_text, kindless_text, answer_text, LineAnswered, LinesAnswered, QuotedUpTo}
-use Rattle.slow_quotes.proofs.Keeping.{without_lanes}
+use Rattle.slow_quotes.proofs.Keeping.{none_held, without_lanes}
 
 -- one more line above the first that names a kind
 pub kindless_more : (lines : List Line) (i : ℕ) (line : Line) (v w : List ℕ) → i < length lines → line ≡ get_or lines i line → v ≡ kindless_text (take i lines) → w ≡ v ++ fault_text line.number NoKind → w ≡ kindless_text (take (i + 1) lines)
@@ -35,18 +35,18 @@ module _ {M V : Type 0} (K : Kind M) (means : V → M) (Reads : List ℕ → Opt
   lines_more before between after (l ∷ lines) line said next (mid, first, others, a, rest, e) h =
       (mid, first, others ++ next, a, lines_more mid between after lines line others next rest h, ap (λ b. b ++ next) e ∙ append_assoc first others next)
 
-  pub quoted_more : (lines : List Line) (i : ℕ) (line : Line) (last last' : Network M) (said next whole : List ℕ) → i < length lines → line ≡ get_or lines i line → QuotedUpTo K means Reads text (take i lines) last said → LineAnswered K means Reads text last line last' next → whole ≡ said ++ next → QuotedUpTo K means Reads text (take (i + 1) lines) last' whole
-  quoted_more lines i line last last' said next whole l e q a w = record {
+  pub quoted_more : (lines : List Line) (i : ℕ) (line : Line) (last last' : Network M) (said next bytes whole : List ℕ) → i < length lines → line ≡ get_or lines i line → QuotedUpTo K means Reads text (take i lines) last said → LineAnswered K means Reads text last line last' next → whole ≡ said ++ bytes → bytes ≡ next → QuotedUpTo K means Reads text (take (i + 1) lines) last' whole
+  quoted_more lines i line last last' said next bytes whole l e q a w z = record {
     first = q.first;
     begins = q.begins;
     answered =
         subst (λ list. LinesAnswered K means Reads text q.first list last' whole) (ap (λ x. take i lines ++ (x ∷ [])) e ∙ sym (take_more lines i line l))
-        (subst (LinesAnswered K means Reads text q.first (take i lines ++ (line ∷ [])) last') (sym w)
+        (subst (LinesAnswered K means Reads text q.first (take i lines ++ (line ∷ [])) last') (sym (w ∙ ap (λ b. said ++ b) z))
         (lines_more q.first last last' (take i lines) line said next q.answered a));
   }
 
   nothing_held : EmptyArea K 0 []
-  nothing_held = record { square = λ _. refl; empty = λ _. refl; holds_none = λ k. get_or_past [] k K.none (omega arith) }
+  nothing_held = record { square = λ _. refl; empty = λ _. refl; holds_none = none_held K }
 
   nothing_quoted : QuotedUpTo K means Reads text [] (shown K 0 []) []
   nothing_quoted = record { first = shown K 0 []; begins = without_lanes K 0 [] nothing_held; answered = (refl, refl) }

@@ -8,6 +8,7 @@ use Rattle.rates.specs.Kinds.{Kind}
 use Rattle.rates.specs.Loads.{tonnes_kind}
 use Rattle.rates.specs.Meanings.{amount_of, load_of}
 use Rattle.rates.specs.Pairs.{couple_of, pair_kind}
+use Rattle.trips.specs.Trips.{NoEarning}
 use Rattle.slow.specs.declared.refusal.Refusal.TheVariants.{NoTerminals, TooManyTerminals, WrongLength, NoRate, NoTerminal, NoLaneRate}
 use Rattle.slow_quotes.specs.declared.order.Order.{Order}
 use Rattle.slow_quotes.specs.declared.quotes.Fault.{Fault}
@@ -80,8 +81,11 @@ module _ {M V : Type 0} (K : Kind M) (means : V → M) (Reads : List ℕ → Opt
     pub begins : WithoutLanes K 0 first
     pub answered : LinesAnswered first lines last said
 
-  abbrev pub Quoted : List Line → List ℕ → Type 0
-  Quoted lines said = (last : Network M) × QuotedUpTo lines last said
+  -- in the network after them no closed trip earns
+  pub record Quoted (lines : List Line) (said : List ℕ) : Type 0 where
+    pub last : Network M
+    pub up_to : QuotedUpTo lines last said
+    pub none_earns : NoEarning K last.lanes
 
 -- the names of the kinds
 abbrev pub cents_name : List ℕ
