@@ -1,6 +1,6 @@
 -- What keeps a network's area and table in order: setting lanes, and filling the table of a network without lanes.
 -- Assumes the laws of the kind.
-use Rattle.std.proofs.Common.{◌≡◌, ℕ, ◌+◌, ◌*◌, ◌<◌, ◌≤◌, Bool, true, false, cond, ◌&&◌, ltb, ◌⊎◌, ◌≢◌, List, [], map, length, take, ◌++◌, Ok, Err, None, Some, Option, Result, sym, refl, ap, ◌∙◌, subst, inl, inr, ⊎_elim, arith}
+use Rattle.std.proofs.Common.{◌≡◌, ℕ, ◌+◌, ◌*◌, ◌<◌, Bool, true, false, ◌&&◌, ltb, ◌⊎◌, ◌≢◌, List, [], map, length, take, ◌++◌, Ok, Err, Some, Option, Result, sym, refl, ap, ◌∙◌, subst, inl, inr, ⊎_elim, arith}
 use Rattle.std.specs.Result.{MatchResult, IsErrAnd}
 use Rattle.std.proofs.lemmas.Bool.{cases_Bool, both_ways, cond-true, cond-false}
 use Rattle.std.proofs.Math.Seq.{take-append_seam}
@@ -9,8 +9,7 @@ use Rattle.rates.specs.Kinds.{Kind, Laws}
 use Rattle.trips.specs.Trips.{LaneMap, Trip, lanes, Earning, NoEarning, BestRate, changed}
 use Rattle.trips.specs.Trips.Trip.{stay, go}
 use Rattle.trips.proofs.Walks.{no_earning_fewer}
-use Rattle.trips.proofs.Shown.{shutting_never_earns}
-use Rattle.slow.specs.Areas.{most_terminals, Few, InArea, PairRefused, at, entry, lane_map, LaneOrNone, LaneArea, BestTable, Settled, AreasRefused, Tested, LaneSet}
+use Rattle.slow.specs.Areas.{Few, InArea, PairRefused, at, entry, lane_map, LaneOrNone, LaneArea, Settled, AreasRefused, Tested, LaneSet}
 use Rattle.slow.specs.declared.refusal.Refusal.{Refusal}
 use Rattle.slow.specs.declared.refusal.Refusal.TheVariants.{NoTerminals, TooManyTerminals, WrongLength, NoRate, NoTerminal, NoLaneRate}
 use Rattle.slow_quotes.specs.declared.order.Order.{Order}

@@ -1,10 +1,9 @@
 -- What one more line is answered with.
 -- Assumes nothing.
-use Rattle.std.proofs.Common.{◌≡◌, ℕ, ◌+◌, ◌*◌, ◌<◌, ◌≤◌, List, [], ◌∷◌, ◌++◌, map, length, get_or, take, Ok, Err, Some, Option, Result, codes, string_bytes, sym, refl, ap, ◌∙◌, subst, inl, inr, append_assoc, arith}
+use Rattle.std.proofs.Common.{◌≡◌, ℕ, ◌+◌, ◌<◌, List, [], ◌∷◌, ◌++◌, map, length, get_or, take, Ok, Err, Some, Option, Result, string_bytes, sym, refl, ap, ◌∙◌, subst, inr, append_assoc, arith}
 use Rattle.std.specs.Result.{IfOk}
 use Rattle.std.proofs.lemmas.List.{append-nil, flat_map_more, take_more}
 use Rattle.rates.specs.Kinds.{Kind}
-use Rattle.slow.specs.Areas.{Few, at}
 use Rattle.slow_quotes.specs.declared.order.Order.{Order}
 use Rattle.slow_quotes.specs.declared.quotes.Fault.{Fault}
 use Rattle.slow_quotes.specs.declared.quotes.Fault.TheVariants.{NoKind}

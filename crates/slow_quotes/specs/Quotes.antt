@@ -1,6 +1,6 @@
 -- The text that lines of orders are answered with, from the network as the lines above made it.
 -- Assumes nothing; the kind of rate is any, with its words and its text.
-use Rattle.std.specs.Prelude.{◌≡◌, ℕ, ◌⊎◌, ◌≢◌, List, [], ◌∷◌, ◌++◌, Some, None, Ok, Err, Option, Result, codes, decimal, string_bytes}
+use Rattle.std.specs.Prelude.{◌≡◌, ℕ, ◌⊎◌, List, [], ◌∷◌, ◌++◌, Some, None, Ok, Err, Option, Result, codes, decimal, string_bytes}
 use Rattle.std.specs.List.{flat_map}
 use Rattle.offers.specs.Words.{CentsRead, TonnesRead, PairRead, cents_text, tonnes_text}
 use Rattle.rates.specs.Amounts.{cents_kind}

@@ -1,4 +1,4 @@
-use Rattle.std.proofs.Common.{◌≡◌, ◌++◌, map, length, take, drop, sym, refl, ap, subst, arith}
+use Rattle.std.proofs.Common.{map, length, drop, sym, refl, ap, subst, arith}
 use Rattle.slow_quotes.specs.Networks.{InOrder, shown}
 use Rattle.slow_quotes.proofs.Keeping.{lane_answered, shut_answered, terminals_answered, quote_answered, answered_as, written_back}
 use Rattle.slow_quotes.proofs.quotes.carry_out.Goals as goal

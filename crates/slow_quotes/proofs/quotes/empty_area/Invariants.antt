@@ -1,4 +1,4 @@
-use Rattle.std.proofs.Common.{◌≡◌, ℕ, ◌≤◌, map, length}
+use Rattle.std.proofs.Common.{◌≡◌, ℕ, map, length}
 use Rattle.slow.specs.Areas.{at}
 use Rattle.slow_quotes.proofs.quotes.empty_area.Given as goal
 

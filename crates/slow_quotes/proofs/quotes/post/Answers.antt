@@ -1,6 +1,5 @@
-use Rattle.std.proofs.Common.{◌*◌, map, refl, inl, inr, ⊎_elim}
-use Rattle.slow_quotes.specs.Networks.{InOrder}
-use Rattle.slow_quotes.proofs.Keeping.{handed_on, lane_fault, pair_refused, pair_within, set_in_order, set_not_refused, pair_not_refused, lane_changed, tested_is, table_places, lane_places}
+use Rattle.std.proofs.Common.{◌*◌, refl, inr, ⊎_elim}
+use Rattle.slow_quotes.proofs.Keeping.{handed_on, lane_fault, pair_refused, pair_within, set_in_order, set_not_refused, pair_not_refused, lane_changed, tested_is, lane_places}
 use Rattle.slow_quotes.proofs.quotes.post.Goals as goal
 
 pub returns : goal.returns

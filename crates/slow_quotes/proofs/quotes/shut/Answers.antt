@@ -1,8 +1,8 @@
-use Rattle.std.proofs.Common.{map, sym, subst, inl, ⊎_elim}
+use Rattle.std.proofs.Common.{map, sym, subst}
 use Rattle.trips.proofs.Shown.{shutting_never_earns}
 use Rattle.slow.specs.Areas.{LaneSet, lane_map}
 use Rattle.slow_quotes.specs.Networks.{InOrder}
-use Rattle.slow_quotes.proofs.Keeping.{handed_on, shut_fault, pair_refused, pair_within, filled_from, set_in_order, set_not_refused, lane_changed, lane_places}
+use Rattle.slow_quotes.proofs.Keeping.{handed_on, shut_fault, pair_within, filled_from, set_in_order, set_not_refused, lane_changed}
 use Rattle.slow_quotes.proofs.quotes.shut.Goals as goal
 
 pub returns : goal.returns
