@@ -1,4 +1,10 @@
-// The networks of the text, and what is printed of them.
+// The networks that the lines of the text make, and the text that the lines are answered with.
+ghost use Rattle.std.specs.Prelude.{◌≡◌, ℕ, ◌*◌, map, IfOk, MatchResult, Decides, string_bytes};
+ghost use Rattle.slow.specs.Areas.{Few};
+ghost use Rattle.slow_quotes.specs.declared.quotes.Fault.TheVariants.{Refused};
+ghost use Rattle.slow_quotes.specs.Networks.{Answered, LaneFits, LaneFault, LaneChanged, PairFault, CountFault, Within, InOrder, EmptyArea, Kept, shown, network_of, without_quotation};
+ghost use Rattle.slow_quotes.specs.Quotes.{reason, fault_text, quotation_text, kindless_text, LineAnswered, Quoted, NamesKind, Told};
+
 use crate::order::{Order, read_order};
 use offers::written::Written;
 use rates::cents::Cents;
@@ -8,19 +14,17 @@ use rates::tonnes::Tonnes;
 use slow::best::{MOST_TERMINALS, best_rate, best_rates, set_lane, would_earn};
 use slow::refusal::Refusal;
 use std::alloc::{AllocError, Global};
-use std::io;
-use std::io::{BufRead, BufReader};
 
 // One line of the text: its number from 1, and its words.
 #[derive(Drop)]
-struct Line {
-    number: usize,
-    text: String,
+pub struct Line {
+    pub number: usize,
+    pub text: String,
 }
 
 // Why an order is not carried out.
 #[derive(Clone, Copy)]
-enum Fault {
+pub enum Fault {
     NoKind,
     NoOrder,
     SameTerminal,
@@ -29,13 +33,17 @@ enum Fault {
 }
 
 impl From<Refusal> for Fault {
+    ghost from_gives = { λ why fault. fault ≡ Refused why };
+
     fn from(e: Refusal) -> Fault {
         Fault::Refused(e)
     }
 }
 
 // What is printed of a fault.
-fn explain(fault: Fault) -> &'static str {
+fn explain(fault: Fault) -> &'static str
+    ensures { result.now ≡ reason fault }
+{
     match fault {
         Fault::NoKind => "no kind of rate is named yet",
         Fault::NoOrder => "no order",
@@ -51,7 +59,9 @@ fn explain(fault: Fault) -> &'static str {
 }
 
 // An area of n rows of n places that hold none; empty where there are too many terminals.
-fn empty_area<R: Rate>(heap: Global, n: usize) -> Result<Vec<R>, AllocError> {
+fn empty_area<R: Rate>(heap: Global, n: usize) -> Result<Vec<R>, AllocError>
+    ensures { IfOk result (λ area. EmptyArea R.kind n (map R.means area.items)) }
+{
     let mut area = Vec::new(heap);
     if n <= MOST_TERMINALS {
         for _ in 0..n * n {
@@ -69,7 +79,11 @@ fn post<R: Rate>(
     from: usize,
     to: usize,
     rate: R,
-) -> Result<(), Fault> {
+) -> Result<(), Fault>
+    requires { InOrder R.kind n (map R.means lanes.old) (map R.means table.old) }
+    ensures answer { MatchResult result (λ _. LaneFits R.kind (shown R.kind n (map R.means lanes.old)) from to (R.means rate) × LaneChanged R.kind (shown R.kind n (map R.means lanes.old)) from to (R.means rate) (shown R.kind n (map R.means lanes.new))) (λ fault. LaneFault R.kind (shown R.kind n (map R.means lanes.old)) from to (R.means rate) fault × (lanes.new ≡ lanes.old)) }
+    ensures in_order { InOrder R.kind n (map R.means lanes.new) (map R.means table.new) }
+{
     if from == to {
         return Err(Fault::SameTerminal);
     }
@@ -88,117 +102,164 @@ fn shut<R: Rate>(
     table: &mut [R],
     from: usize,
     to: usize,
-) -> Result<(), Fault> {
+) -> Result<(), Fault>
+    requires { InOrder R.kind n (map R.means lanes.old) (map R.means table.old) }
+    ensures answer { MatchResult result (λ _. Within (shown R.kind n (map R.means lanes.old)) from to × LaneChanged R.kind (shown R.kind n (map R.means lanes.old)) from to R.kind.none (shown R.kind n (map R.means lanes.new))) (λ fault. PairFault (shown R.kind n (map R.means lanes.old)) from to fault × (lanes.new ≡ lanes.old)) }
+    ensures in_order { InOrder R.kind n (map R.means lanes.new) (map R.means table.new) }
+{
     set_lane(n, lanes, from, to, R::none())?;
     best_rates(n, &*lanes, table)?;
     Ok(())
 }
 
-// A best rate, and between which terminals.
-#[derive(Clone, Copy)]
-struct Quotation<R> {
-    from: usize,
-    to: usize,
-    rate: R,
-}
-
-// Carries out an order over a network; a new one has its areas already.
-fn carry_out<R: Rate>(
-    n: usize,
-    lanes: &mut [R],
-    table: &mut [R],
-    order: Order<R>,
-) -> Result<Option<Quotation<R>>, Fault> {
-    match order {
-        Order::Terminals(_) => {
-            best_rates(n, &*lanes, table)?;
-        }
-        Order::Lane(from, to, rate) => post(n, lanes, table, from, to, rate)?,
-        Order::Shut(from, to) => shut(n, lanes, table, from, to)?,
-        Order::Quote(from, to) => {
-            let rate = best_rate(n, &*table, from, to)?;
-            return Ok(Some(Quotation { from, to, rate }));
-        }
-    }
-    Ok(None)
-}
-
-fn print_quotation<R: Written>(rt: &HostRuntime, quotation: Quotation<R>) -> io::Result<()> {
-    let from = quotation.from;
-    let to = quotation.to;
-    let rate = quotation.rate.show(rt.alloc())?;
-    println!(rt; "{from} to {to}: {rate}")
-}
-
-fn print_fault(rt: &HostRuntime, line: usize, fault: Fault) -> io::Result<()> {
-    let why = explain(fault);
-    println!(rt; "line {line}: {why}")
-}
-
-// Carries out the orders of one kind, line by line.
-fn quote_all<R: Written>(rt: &HostRuntime, lines: &[Line]) -> io::Result<()> {
-    let heap = rt.alloc();
-    let mut n = 0usize;
-    let mut lanes: Vec<R> = Vec::new(heap);
-    let mut table: Vec<R> = Vec::new(heap);
-    for line in lines {
-        let Some(order) = read_order::<R>(line.text.as_str()) else {
-            print_fault(rt, line.number, Fault::NoOrder)?;
-            continue;
-        };
-        if let Order::Terminals(count) = order {
-            n = count;
-            lanes = empty_area(heap, n)?;
-            table = empty_area(heap, n)?;
-        }
-        match carry_out(n, lanes.as_mut_slice(), table.as_mut_slice(), order) {
-            Ok(Some(quotation)) => print_quotation(rt, quotation)?,
-            Ok(None) => {}
-            Err(fault) => print_fault(rt, line.number, fault)?,
-        }
-    }
+// Fills the table of a network without lanes.
+fn fill<R: Rate>(n: usize, lanes: &[R], table: &mut [R]) -> Result<(), Fault>
+    requires { EmptyArea R.kind n (map R.means lanes.now) × EmptyArea R.kind n (map R.means table.old) }
+    ensures answer { MatchResult result (λ _. Few n) (CountFault n) }
+    ensures in_order { InOrder R.kind n (map R.means lanes.now) (map R.means table.new) }
+{
+    best_rates(n, lanes, table)?;
     Ok(())
 }
 
-// Carries out the lines below the one that names a kind of rate; above the first such line there is none.
-fn quote_kind(rt: &HostRuntime, kind: &str, lines: &[Line]) -> io::Result<()> {
-    rt.println(kind)?;
-    match kind {
-        "cents" => quote_all::<Cents>(rt, lines),
-        "tonnes" => quote_all::<Tonnes>(rt, lines),
-        "cents before tonnes" => quote_all::<Pair<Cents, Tonnes>>(rt, lines),
-        _ => {
-            for line in lines {
-                print_fault(rt, line.number, Fault::NoKind)?;
-            }
-            Ok(())
-        }
+// A best rate, and between which terminals.
+#[derive(Clone, Copy)]
+pub struct Quotation<R> {
+    pub from: usize,
+    pub to: usize,
+    pub rate: R,
+}
+
+// A network: how many terminals it has, the area of its lanes and the table of its best rates.
+#[derive(Drop)]
+struct Held<R> {
+    n: usize,
+    lanes: Vec<R>,
+    table: Vec<R>,
+}
+
+// The answer to an order that asks for no rate.
+fn no_quotation<R>(answer: Result<(), Fault>) -> Result<Option<Quotation<R>>, Fault>
+    ensures { result ≡ without_quotation answer }
+{
+    match answer {
+        Ok(()) => Ok(None),
+        Err(fault) => Err(fault),
     }
+}
+
+// Carries out an order.
+fn carry_out<R: Rate>(
+    heap: Global,
+    net: &mut Held<R>,
+    order: Order<R>,
+) -> Result<Result<Option<Quotation<R>>, Fault>, AllocError>
+    requires { Kept R.kind R.means net.old }
+    ensures answer { IfOk result (Answered R.kind R.means (network_of R.kind R.means net.old) order (network_of R.kind R.means net.new)) }
+    ensures kept { IfOk result (λ _. Kept R.kind R.means net.new) }
+{
+    match order {
+        Order::Terminals(n) => {
+            net.lanes = empty_area(heap, n)?;
+            net.table = empty_area(heap, n)?;
+            net.n = n;
+            let lanes = net.lanes.as_slice();
+            Ok(no_quotation(fill(n, lanes, net.table.as_mut_slice())))
+        }
+        Order::Lane(from, to, rate) => {
+            let lanes = net.lanes.as_mut_slice();
+            let posted = post(net.n, lanes, net.table.as_mut_slice(), from, to, rate);
+            Ok(no_quotation(posted))
+        }
+        Order::Shut(from, to) => {
+            let lanes = net.lanes.as_mut_slice();
+            let taken = shut(net.n, lanes, net.table.as_mut_slice(), from, to);
+            Ok(no_quotation(taken))
+        }
+        Order::Quote(from, to) => match best_rate(net.n, net.table.as_slice(), from, to) {
+            Ok(rate) => Ok(Ok(Some(Quotation { from, to, rate }))),
+            Err(why) => Ok(Err(Fault::Refused(why))),
+        },
+    }
+}
+
+// What is answered to a quote: the rate between two terminals.
+fn quotation_text<R: Written>(heap: Global, quotation: Quotation<R>) -> Result<String, AllocError>
+    ensures { IfOk result (λ s. string_bytes s ≡ quotation_text R.Written.text quotation) }
+{
+    let from = quotation.from;
+    let to = quotation.to;
+    let rate = quotation.rate.show(heap)?;
+    format!(in heap; "{from} to {to}: {rate}\n")
+}
+
+// What is answered to a line at fault.
+fn fault_text(heap: Global, line: usize, fault: Fault) -> Result<String, AllocError>
+    ensures { IfOk result (λ s. string_bytes s ≡ fault_text line fault) }
+{
+    let why = explain(fault);
+    format!(in heap; "line {line}: {why}\n")
+}
+
+// What a line is answered with.
+fn said<R: Written>(heap: Global, net: &mut Held<R>, line: &Line) -> Result<String, AllocError>
+    requires { Kept R.kind R.means net.old }
+    ensures answer { IfOk result (λ s. LineAnswered R.kind R.means R.Written.reads R.Written.text (network_of R.kind R.means net.old) line.now (network_of R.kind R.means net.new) (string_bytes s)) }
+    ensures kept { IfOk result (λ _. Kept R.kind R.means net.new) }
+{
+    let Some(order) = read_order::<R>(line.text.as_str()) else {
+        return fault_text(heap, line.number, Fault::NoOrder);
+    };
+    match carry_out(heap, net, order)? {
+        Ok(Some(quotation)) => quotation_text(heap, quotation),
+        Ok(None) => Ok(String::new(heap)),
+        Err(fault) => fault_text(heap, line.number, fault),
+    }
+}
+
+// What lines under the name of a kind are answered with, from a network without terminals on.
+pub fn quoted<R: Written>(heap: Global, lines: &[Line]) -> Result<String, AllocError>
+    ensures { IfOk result (λ s. Quoted R.kind R.means R.Written.reads R.Written.text lines.now (string_bytes s)) }
+{
+    let mut text = String::new(heap);
+    let mut net = Held {
+        n: 0,
+        lanes: Vec::new(heap),
+        table: Vec::new(heap),
+    };
+    for line in lines {
+        text.push_str(said::<R>(heap, &mut net, line)?.as_str())?;
+    }
+    Ok(text)
+}
+
+// What lines above the name of a kind are answered with: each is at fault.
+fn nothing_quoted(heap: Global, lines: &[Line]) -> Result<String, AllocError>
+    ensures { IfOk result (λ s. string_bytes s ≡ kindless_text lines.now) }
+{
+    let mut text = String::new(heap);
+    for line in lines {
+        text.push_str(fault_text(heap, line.number, Fault::NoKind)?.as_str())?;
+    }
+    Ok(text)
+}
+
+// The name of a kind, and what the lines below it are answered with.
+pub fn told(heap: Global, kind: &str, lines: &[Line]) -> Result<String, AllocError>
+    ensures { IfOk result (λ s. Told kind.now lines.now (string_bytes s)) }
+{
+    let answers = match kind {
+        "cents" => quoted::<Cents>(heap, lines)?,
+        "tonnes" => quoted::<Tonnes>(heap, lines)?,
+        "cents before tonnes" => quoted::<Pair<Cents, Tonnes>>(heap, lines)?,
+        _ => nothing_quoted(heap, lines)?,
+    };
+    format!(in heap; "{kind}\n{answers}")
 }
 
 // Whether a line names a kind of rate.
-fn names_kind(text: &str) -> bool {
+pub fn names_kind(text: &str) -> bool
+    ensures { Decides result (NamesKind text.now) }
+{
     text == "cents" || text == "tonnes" || text == "cents before tonnes"
-}
-
-// Reads the text, and carries it out.
-pub fn run(rt: &HostRuntime) -> io::Result<()> {
-    let heap = rt.alloc();
-    let mut kind = String::from_str(heap, "no kind")?;
-    let mut lines = Vec::new(heap);
-    let mut number = 0usize;
-    for text in BufReader::new(heap, rt.stdin())?.lines(heap) {
-        let text = text?;
-        number = number.saturating_add(1);
-        if names_kind(text.as_str()) {
-            if !lines.is_empty() {
-                quote_kind(rt, kind.as_str(), lines.as_slice())?;
-            }
-            lines.clear();
-            kind = text;
-        } else {
-            lines.push(Line { number, text })?;
-        }
-    }
-    quote_kind(rt, kind.as_str(), lines.as_slice())
 }
