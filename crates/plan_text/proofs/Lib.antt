@@ -4,3 +4,4 @@ pub mod Pages
 pub mod Holders
 pub mod Accepted
 pub mod Trees
+pub mod Reports

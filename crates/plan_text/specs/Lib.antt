@@ -3,3 +3,5 @@ pub mod Pages
 pub mod Pictures
 pub mod Laid
 pub mod Trees
+pub mod Reports
+pub mod Readers

@@ -1,4 +1,9 @@
 // The whole text of commands, and what is told of each plan in it.
+ghost use Rattle.std.specs.Prelude.{◌≡◌, ◌++◌, IfOk, OnOk, Some, string_bytes};
+ghost use Rattle.plan_text.specs.Pages.{GrownBy, GrownByA};
+ghost use Rattle.plan_text.specs.Reports.{ViewText, PlanTold, ShapeLinks, title_text, EndTold, ShapeTold, LineTold, Told, complaint, nothing_read};
+ghost use Rattle.plan_text.specs.Readers.{reading_of};
+
 use crate::commands::{Command, read_command};
 use crate::laid::{Laid, lay};
 use crate::page::Page;
@@ -25,7 +30,10 @@ struct Reader {
     view: View,
 }
 
-fn write_laid(page: &mut Page, laid: &Laid, view: View) {
+// Writes what is shown of an accepted plan.
+fn write_laid(page: &mut Page, laid: &Laid, view: View)
+    ensures { GrownByA (ViewText view laid.now) page.old page.new }
+{
     match view {
         View::Summary => write_summary(page, laid),
         View::Tree => {
@@ -43,7 +51,9 @@ fn tell(
     n: usize,
     links: &[Link],
     view: View,
-) -> Result<(), AllocError> {
+) -> Result<(), AllocError>
+    ensures { OnOk result (GrownByA (PlanTold view n links.now) page.old page.new) }
+{
     match lay(heap, n, links)? {
         Ok(laid) => write_laid(page, &laid, view),
         Err(fault) => write_fault(page, links, fault),
@@ -52,7 +62,9 @@ fn tell(
 }
 
 // The links of a shape.
-fn shape_links(heap: Global, shape: Shape, n: usize) -> Result<Vec<Link>, AllocError> {
+fn shape_links(heap: Global, shape: Shape, n: usize) -> Result<Vec<Link>, AllocError>
+    ensures { IfOk result (λ links. ShapeLinks shape n links.items) }
+{
     match shape {
         Shape::Bare => Ok(Vec::new(heap)),
         _ => {
@@ -67,20 +79,40 @@ fn shape_links(heap: Global, shape: Shape, n: usize) -> Result<Vec<Link>, AllocE
     }
 }
 
-fn write_title(page: &mut Page, n: usize, links: usize) {
+// Writes the line before what is told of a plan; before a picture there is none.
+fn write_title(page: &mut Page, view: View, n: usize, links: usize)
+    ensures { GrownBy page.old page.new (title_text view n links) }
+{
+    if let View::Picture = view {
+        return;
+    }
     page.say("plan, terminals: ", n, ", links: ");
     page.say("", links, "\n");
 }
 
+// Tells of a plan with its title.
+fn tell_titled(
+    heap: Global,
+    page: &mut Page,
+    n: usize,
+    links: &[Link],
+    view: View,
+) -> Result<(), AllocError>
+    ensures { OnOk result (GrownByA (EndTold view (Some n) links.now) page.old page.new) }
+{
+    write_title(page, view, n, links.len());
+    tell(heap, page, n, links, view)
+}
+
 impl Reader {
     // Tells of the plan that was read, if one was.
-    fn end_plan(&mut self, heap: Global) -> Result<(), AllocError> {
+    fn end_plan(&mut self, heap: Global) -> Result<(), AllocError>
+        ensures told { OnOk result (GrownByA (EndTold self.old.view self.old.terminals self.old.links.items) self.old.page self.new.page) }
+        ensures ended { OnOk result (reading_of self.new ≡ nothing_read) }
+        ensures view { self.new.view ≡ self.old.view }
+    {
         if let Some(n) = self.terminals {
-            match self.view {
-                View::Picture => {}
-                _ => write_title(&mut self.page, n, self.links.len()),
-            }
-            tell(heap, &mut self.page, n, &self.links, self.view)?;
+            tell_titled(heap, &mut self.page, n, &self.links, self.view)?;
         }
         self.terminals = None;
         self.links.clear();
@@ -93,7 +125,11 @@ impl Reader {
         words: &str,
         shape: Shape,
         n: usize,
-    ) -> Result<(), AllocError> {
+    ) -> Result<(), AllocError>
+        ensures told { OnOk result (GrownByA (ShapeTold self.old.view words.now shape n (reading_of self.old)) self.old.page self.new.page) }
+        ensures ended { OnOk result (reading_of self.new ≡ nothing_read) }
+        ensures view { self.new.view ≡ self.old.view }
+    {
         self.end_plan(heap)?;
         let links = shape_links(heap, shape, n)?;
         self.page.word(words);
@@ -101,13 +137,22 @@ impl Reader {
         tell(heap, &mut self.page, n, &links, View::Summary)
     }
 
-    fn complain(&mut self, line: usize, words: &str, why: &str) {
+    // Says that a line cannot be carried out.
+    fn complain(&mut self, line: usize, words: &str, why: &str)
+        ensures told { GrownBy self.old.page self.new.page (complaint line words.now why.now) }
+        ensures same { reading_of self.new ≡ reading_of self.old }
+        ensures view { self.new.view ≡ self.old.view }
+    {
         self.page.say("line ", line, why);
         self.page.word(words);
         self.page.word("\n");
     }
 
-    fn read_line(&mut self, heap: Global, line: usize, words: &str) -> Result<(), AllocError> {
+    // Carries out a line.
+    fn read_line(&mut self, heap: Global, line: usize, words: &str) -> Result<(), AllocError>
+        ensures told { OnOk result (GrownByA (LineTold self.old.view line words.now (reading_of self.old) (reading_of self.new)) self.old.page self.new.page) }
+        ensures view { self.new.view ≡ self.old.view }
+    {
         match read_command(words) {
             Command::Blank => {}
             Command::Plan(n) => {
@@ -129,7 +174,9 @@ impl Reader {
 }
 
 // What is told of all plans of the text, in order.
-pub fn report(heap: Global, text: &str, view: View) -> Result<String, AllocError> {
+pub fn report(heap: Global, text: &str, view: View) -> Result<String, AllocError>
+    ensures { IfOk result (λ s. Told view 1 nothing_read text.now (string_bytes s)) }
+{
     let mut reader = Reader {
         page: Page::new(heap),
         terminals: None,
@@ -138,7 +185,7 @@ pub fn report(heap: Global, text: &str, view: View) -> Result<String, AllocError
     };
     let mut line = 0usize;
     for words in text.lines() {
-        line = line.saturating_add(1);
+        line += 1;
         reader.read_line(heap, line, words)?;
     }
     reader.end_plan(heap)?;
