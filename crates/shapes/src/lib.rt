@@ -1,7 +1,9 @@
 // Plans of well-known shapes: the sides of a whole triangulation as links, in preorder.
 #![tactic(auto)]
 
-ghost use Rattle.std.specs.Prelude.{◌≡◌, ◌+◌, ◌<◌, slice_set};
+ghost use Rattle.std.specs.Prelude.{◌≡◌, ◌+◌, ◌-◌, ◌*◌, ◌<◌, ◌≤◌, slice_set};
+ghost use Rattle.ring.specs.Linked.{link_at};
+ghost use Rattle.shapes.specs.Shapes.{Drawn, link_between, mixed_of, third_of, ThirdBy};
 
 use ring::Link;
 
@@ -21,7 +23,9 @@ pub enum Shape {
 }
 
 // A number from 0 to 65,535 that looks random.
-fn mixed(low: u16, high: u16) -> u16 {
+fn mixed(low: u16, high: u16) -> u16
+    ensures { result ≡ mixed_of low high }
+{
     let seed = u64::from(low)
         .wrapping_mul(65536)
         .wrapping_add(u64::from(high));
@@ -34,7 +38,9 @@ fn mixed(low: u16, high: u16) -> u16 {
 // The third terminal of the triangle on the side from `low` to `high`.
 fn third(shape: Shape, low: u16, high: u16) -> u16
     requires { low + 1 < high }
-    ensures { (low < result) × (result < high) }
+    ensures between { (low < result) × (result < high) }
+    ensures lies { ThirdBy shape low result high }
+    ensures chosen { result ≡ third_of shape low high }
 {
     match shape {
         Shape::Fan => high - 1,
@@ -59,7 +65,14 @@ fn put(links: &mut [Link], i: usize, link: Link)
 }
 
 // Writes the two sides of the triangle on the side at `i`: the left one at the next place, the right one past the left one's.
-fn put_children(shape: Shape, links: &mut [Link], i: usize) {
+fn put_children(shape: Shape, links: &mut [Link], i: usize)
+    ensures unit { let at = link_at links.old i in at.to ≤ at.from + 1 → links.new ≡ links.old }
+    ensures split { let at = link_at links.old i in
+        let c = third_of shape at.from at.to in
+        let left_drawn = slice_set links.old (i + 1) (link_between at.from c) in
+        at.from + 1 < at.to
+        → links.new ≡ slice_set left_drawn (i + 2 * (c - at.from)) (link_between c at.to) }
+{
     if i >= links.len() {
         return;
     }
@@ -76,8 +89,11 @@ fn put_children(shape: Shape, links: &mut [Link], i: usize) {
     }
 }
 
-// Fills the area with the sides of a ring whose last terminal is `last`; there are 2 last - 1 of them.
-pub fn draw_shape(shape: Shape, last: u16, links: &mut [Link]) {
+// Fills the area with the sides of a ring whose last terminal is `last`; there are 2 last - 1 of them. A shorter area gets the
+// first of them.
+pub fn draw_shape(shape: Shape, last: u16, links: &mut [Link])
+    ensures { 1 ≤ last → Drawn shape last links.new }
+{
     put(links, 0, Link { from: 0, to: last });
     for i in 0..links.len() {
         put_children(shape, links, i);
