@@ -1,7 +1,6 @@
 -- What is told of a text, one line after another.
 -- Assumes nothing.
 use Rattle.std.proofs.Common.{◌≡◌, ℕ, ◌+◌, ◌<◌, List, ◌++◌, Bool, false, true, length, string_bytes, Ok, Err, Result, MatchResult, IfOk, refl, sym, ap, ◌∙◌, subst, append_assoc}
-use Rattle.std.proofs.lemmas.List.{append-nil}
 use Rattle.std.specs.Str.Lines.{IsFirstLine}
 use Rattle.plan_text.specs.declared.page.Page.{Page}
 use Rattle.plan_text.specs.declared.telling.View.{View}

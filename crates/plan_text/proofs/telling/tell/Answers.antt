@@ -6,5 +6,5 @@ pub returns-in-Ok : goal.returns-in-Ok
 returns-in-Ok c =
     let told = c.write_laid.ensures in
     let accepted : LaidOut c.args.n c.args.links.now c.in-Ok.laid =
-        subst (λ r. MatchResult r (LaidOut c.args.n c.args.links.now) (Refused c.args.n c.args.links.now)) c.in-Ok.is c.in_ok-laid.ensures in
+    subst (λ r. MatchResult r (LaidOut c.args.n c.args.links.now) (Refused c.args.n c.args.links.now)) c.in-Ok.is c.in_ok-laid.ensures in
     (told.0, (inl (c.in-Ok.laid, (accepted, told.1.0)), told.1.1))

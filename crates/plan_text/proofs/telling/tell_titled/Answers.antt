@@ -1,4 +1,4 @@
-use Rattle.std.proofs.Common.{◌≡◌, ℕ, List, ◌++◌, length, Some, Ok, Err, refl, Result}
+use Rattle.std.proofs.Common.{ℕ, List, ◌++◌, length, Some, Ok, Err, refl, Result}
 use Rattle.std.specs.Result.{OnOk}
 use Rattle.ring.specs.declared.Link.{Link}
 use Rattle.plan_text.specs.declared.page.Page.{Page}

@@ -1,4 +1,4 @@
-use Rattle.std.proofs.Common.{◌≡◌, ℕ, ◌++◌, codes, decimal, refl, ap, sym, ◌∙◌, append_assoc}
+use Rattle.std.proofs.Common.{◌≡◌, ℕ, ◌++◌, codes, decimal, refl, ap, ◌∙◌, append_assoc}
 use Rattle.plan_text.specs.declared.telling.View.{View}
 use Rattle.plan_text.specs.declared.telling.View.TheVariants.{Summary, Tree, Picture}
 use Rattle.plan_text.specs.Reports.{title, title_text}

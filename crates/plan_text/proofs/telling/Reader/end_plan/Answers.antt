@@ -1,9 +1,6 @@
-use Rattle.std.proofs.Common.{◌≡◌, ℕ, List, [], ◌++◌, Some, None, refl, subst, sym, Option}
-use Rattle.ring.specs.declared.Link.{Link}
-use Rattle.plan_text.specs.declared.page.Page.{Page}
-use Rattle.plan_text.specs.declared.telling.View.{View}
+use Rattle.std.proofs.Common.{[], Some, refl, subst, sym}
 use Rattle.plan_text.specs.declared.telling.Reader.{Reader}
-use Rattle.plan_text.specs.Pages.{GrownBy, GrownByA}
+use Rattle.plan_text.specs.Pages.{GrownByA}
 use Rattle.plan_text.specs.Reports.{EndTold}
 use Rattle.plan_text.proofs.Pages.{GrownBy-nil}
 use Rattle.plan_text.proofs.telling.Reader.end_plan.Goals as goal
@@ -15,10 +12,10 @@ returns-clause-told c =
     let links = c.args.self.now.links.items in
     let page = c.args.self.now.page in elim c.match-self.branch [
       | in-Some+in_ok-tell_titled w ↦
-        subst (λ (reader : Reader). GrownByA (EndTold view c.args.self.now.terminals links) page reader.page) (sym w.self-is)
-        (subst (λ terminals. GrownByA (EndTold view terminals links) page w.tell_titled.new.page) (sym w.in-Some.is) 
-        (subst (λ ls. GrownByA (EndTold view (Some w.in-Some.n) ls) page w.tell_titled.new.page) w.deref.ensures.value w.in_ok-tell_titled.ensures))
+          subst (λ (reader : Reader). GrownByA (EndTold view c.args.self.now.terminals links) page reader.page) (sym w.self-is)
+          (subst (λ terminals. GrownByA (EndTold view terminals links) page w.tell_titled.new.page) (sym w.in-Some.is)
+          (subst (λ ls. GrownByA (EndTold view (Some w.in-Some.n) ls) page w.tell_titled.new.page) w.deref.ensures.value w.in_ok-tell_titled.ensures))
       | in_default w ↦
-        subst (λ (reader : Reader). GrownByA (EndTold view c.args.self.now.terminals links) page reader.page) (sym w.self-is)
-        (subst (λ terminals. GrownByA (EndTold view terminals links) page page) (sym w.in_default.is) ([], (refl, GrownBy-nil page)))
+          subst (λ (reader : Reader). GrownByA (EndTold view c.args.self.now.terminals links) page reader.page) (sym w.self-is)
+          (subst (λ terminals. GrownByA (EndTold view terminals links) page page) (sym w.in_default.is) ([], (refl, GrownBy-nil page)))
     ]

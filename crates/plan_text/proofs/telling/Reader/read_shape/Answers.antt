@@ -1,4 +1,4 @@
-use Rattle.std.proofs.Common.{◌≡◌, ℕ, List, ◌++◌, codes, Ok, Err, refl, subst, sym, Result}
+use Rattle.std.proofs.Common.{ℕ, List, ◌++◌, codes, Ok, Err, refl, subst, sym, Result}
 use Rattle.std.specs.Result.{OnOk}
 use Rattle.ring.specs.declared.Link.{Link}
 use Rattle.shapes.specs.declared.Shape.{Shape}
@@ -16,15 +16,14 @@ shape_told : {E : Type 0} (view : View) (line : List ℕ) (shape : Shape) (n : �
     → GrownByA (EndTold view before.terminals before.links) one two → ShapeLinks shape n links → GrownBy two three line → GrownBy three four (codes ": ")
     → OnOk r (GrownByA (PlanTold Summary n links) four five) → OnOk r (GrownByA (ShapeTold view line shape n before) one five)
 shape_told view line shape n before links one two three four five (Err e) ended drawn first second told = told
-shape_told view line shape n before links one two three four five (Ok u) ended drawn first second told =
-    (
-      ended.0 ++ (line ++ (codes ": " ++ told.0)),
-      (
-        record { ended = ended.0; links = links; told = told.0; end = ended.1.0; drawn = drawn; plan = told.1.0; all = refl },
-        GrownBy-append one two five ended.0 (line ++ (codes ": " ++ told.0)) ended.1.1
+shape_told view line shape n before links one two three four five (Ok u) ended drawn first second told = (
+  ended.0 ++ (line ++ (codes ": " ++ told.0)),
+  (
+    record { ended = ended.0; links = links; told = told.0; end = ended.1.0; drawn = drawn; plan = told.1.0; all = refl },
+    GrownBy-append one two five ended.0 (line ++ (codes ": " ++ told.0)) ended.1.1
         (GrownBy-append two three five line (codes ": " ++ told.0) first (GrownBy-append three four five (codes ": ") told.0 second told.1.1)),
-      ),
-    )
+  ),
+)
 
 pub returns-clause-told : goal.returns-clause-told
 returns-clause-told c =
