@@ -17,7 +17,7 @@ use Rattle.slow_quotes.specs.declared.order.Order.TheVariants.{Terminals, Lane, 
 use Rattle.slow_quotes.specs.declared.quotes.Quotation.{Quotation}
 use Rattle.slow_quotes.specs.declared.quotes.Fault.{Fault}
 use Rattle.slow_quotes.specs.declared.quotes.Fault.TheVariants.{Refused}
-use Rattle.slow_quotes.specs.Networks.{Network, Within, PairFault, CountFault, LaneChanged, LaneFault, LaneFits, Answered, without_quotation, WithoutLanes, shown, Filled, InOrder, EmptyArea}
+use Rattle.slow_quotes.specs.Networks.{Posted, TakenAway, Network, PairFault, CountFault, LaneChanged, LaneFault, Answered, without_quotation, WithoutLanes, shown, Filled, InOrder, EmptyArea}
 
 -- a list that is written back into a vector of its length
 pub written_back : {A : Type 0} (n : ℕ) (new rest : List A) → length new ≡ n → take n (new ++ rest) ≡ new
@@ -171,11 +171,11 @@ module _ {M : Type 0} (K : Kind M) where
           (d.0, λ z e. both_ways earns z (d.1 e))
 
     -- what the order on a lane is answered with
-    pub lane_answered : (lanes lanes' : List V) (from to : ℕ) (rate : V) (r : Result (Unit {0}) Fault) → MatchResult r (λ _. LaneFits K (shown K n (map means lanes)) from to (means rate) × LaneChanged K (shown K n (map means lanes)) from to (means rate) (shown K n (map means lanes'))) (λ fault. LaneFault K (shown K n (map means lanes)) from to (means rate) fault × (lanes' ≡ lanes)) → Answered K means (shown K n (map means lanes)) (Lane from to rate) (shown K n (map means lanes')) (without_quotation r)
+    pub lane_answered : (lanes lanes' : List V) (from to : ℕ) (rate : V) (r : Result (Unit {0}) Fault) → Posted K means n lanes lanes' from to rate r → Answered K means (shown K n (map means lanes)) (Lane from to rate) (shown K n (map means lanes')) (without_quotation r)
     lane_answered lanes lanes' from to rate (Ok done) h = h
     lane_answered lanes lanes' from to rate (Err fault) h = (h.0, ap (λ list. shown K n (map means list)) h.1)
 
-    pub shut_answered : (lanes lanes' : List V) (from to : ℕ) (r : Result (Unit {0}) Fault) → MatchResult r (λ _. Within (shown K n (map means lanes)) from to × LaneChanged K (shown K n (map means lanes)) from to K.none (shown K n (map means lanes'))) (λ fault. PairFault (shown K n (map means lanes)) from to fault × (lanes' ≡ lanes)) → Answered K means (shown K n (map means lanes)) (Shut from to) (shown K n (map means lanes')) (without_quotation r)
+    pub shut_answered : (lanes lanes' : List V) (from to : ℕ) (r : Result (Unit {0}) Fault) → TakenAway K means n lanes lanes' from to r → Answered K means (shown K n (map means lanes)) (Shut from to) (shown K n (map means lanes')) (without_quotation r)
     shut_answered lanes lanes' from to (Ok done) h = h
     shut_answered lanes lanes' from to (Err fault) h = (h.0, ap (λ list. shown K n (map means list)) h.1)
 

@@ -1,6 +1,6 @@
 -- The networks that orders make: what an order is answered with, and the network after it.
 -- Assumes nothing; the kind of rate is any.
-use Rattle.std.specs.Prelude.{◌≡◌, ℕ, ◌*◌, ◌<◌, ◌≤◌, true, false, ◌⊎◌, ◌≢◌, List, [], map, length, Some, None, Ok, Err, Option, Result}
+use Rattle.std.specs.Prelude.{◌≡◌, ℕ, ◌*◌, ◌<◌, ◌≤◌, true, false, ◌⊎◌, ◌≢◌, List, [], map, length, Some, None, Ok, Err, Option, Result, MatchResult}
 use Rattle.rates.specs.Kinds.{Kind}
 use Rattle.trips.specs.Trips.{LaneMap, Earning, NoEarning, BestRate, changed}
 use Rattle.slow.specs.Areas.{most_terminals, Few, InArea, PairRefused, at, lane_map, LaneArea, BestTable}
@@ -89,6 +89,23 @@ module _ {M : Type 0} (K : Kind M) where
   -- the network of n terminals that an area shows
   abbrev pub shown : ℕ → List M → Network M
   shown n area = record { terminals = n; lanes = lane_map K n area }
+
+  module _ {V : Type 0} (means : V → M) (n : ℕ) where
+    -- the network that an area of values shows
+    abbrev pub network : List V → Network M
+    network area = shown n (map means area)
+
+    -- a lane was given a rate, or the reason why not
+    abbrev pub Posted : (before after : List V) → (from to : ℕ) → V → Result (Unit {0}) Fault → Type 0
+    Posted before after from to rate result =
+        MatchResult result (λ _. LaneFits (network before) from to (means rate) × LaneChanged (network before) from to (means rate) (network after))
+        (λ fault. LaneFault (network before) from to (means rate) fault × (after ≡ before))
+
+    -- a lane was taken away, or the reason why not
+    abbrev pub TakenAway : (before after : List V) → (from to : ℕ) → Result (Unit {0}) Fault → Type 0
+    TakenAway before after from to result =
+        MatchResult result (λ _. Within (network before) from to × LaneChanged (network before) from to K.none (network after))
+        (λ fault. PairFault (network before) from to fault × (after ≡ before))
 
   -- An area that shows a network in which no closed trip earns, and the table of its best rates.
   pub record Filled (n : ℕ) (area table : List M) : Type 0 where

@@ -1,8 +1,8 @@
 // The networks that the lines of the text make, and the text that the lines are answered with.
-ghost use Rattle.std.specs.Prelude.{◌≡◌, ℕ, ◌*◌, map, IfOk, MatchResult, Decides, string_bytes};
+ghost use Rattle.std.specs.Prelude.{◌≡◌, map, IfOk, MatchResult, Decides, string_bytes};
 ghost use Rattle.slow.specs.Areas.{Few};
 ghost use Rattle.slow_quotes.specs.declared.quotes.Fault.TheVariants.{Refused};
-ghost use Rattle.slow_quotes.specs.Networks.{Answered, LaneFits, LaneFault, LaneChanged, PairFault, CountFault, Within, InOrder, EmptyArea, Kept, shown, network_of, without_quotation};
+ghost use Rattle.slow_quotes.specs.Networks.{Answered, Posted, TakenAway, CountFault, InOrder, EmptyArea, Kept, network_of, without_quotation};
 ghost use Rattle.slow_quotes.specs.Quotes.{reason, fault_text, quotation_text, kindless_text, LineAnswered, Quoted, NamesKind, Told};
 
 use crate::order::{Order, read_order};
@@ -81,7 +81,7 @@ fn post<R: Rate>(
     rate: R,
 ) -> Result<(), Fault>
     requires { InOrder R.kind n (map R.means lanes.old) (map R.means table.old) }
-    ensures answer { MatchResult result (λ _. LaneFits R.kind (shown R.kind n (map R.means lanes.old)) from to (R.means rate) × LaneChanged R.kind (shown R.kind n (map R.means lanes.old)) from to (R.means rate) (shown R.kind n (map R.means lanes.new))) (λ fault. LaneFault R.kind (shown R.kind n (map R.means lanes.old)) from to (R.means rate) fault × (lanes.new ≡ lanes.old)) }
+    ensures answer { Posted R.kind R.means n lanes.old lanes.new from to rate result }
     ensures in_order { InOrder R.kind n (map R.means lanes.new) (map R.means table.new) }
 {
     if from == to {
@@ -104,7 +104,7 @@ fn shut<R: Rate>(
     to: usize,
 ) -> Result<(), Fault>
     requires { InOrder R.kind n (map R.means lanes.old) (map R.means table.old) }
-    ensures answer { MatchResult result (λ _. Within (shown R.kind n (map R.means lanes.old)) from to × LaneChanged R.kind (shown R.kind n (map R.means lanes.old)) from to R.kind.none (shown R.kind n (map R.means lanes.new))) (λ fault. PairFault (shown R.kind n (map R.means lanes.old)) from to fault × (lanes.new ≡ lanes.old)) }
+    ensures answer { TakenAway R.kind R.means n lanes.old lanes.new from to result }
     ensures in_order { InOrder R.kind n (map R.means lanes.new) (map R.means table.new) }
 {
     set_lane(n, lanes, from, to, R::none())?;
