@@ -3,12 +3,14 @@ ghost use Rattle.std.specs.Prelude.{◌≡◌, refl, Decides};
 ghost use Rattle.rates.specs.Pairs.{Couple, couple_of, pair_kind};
 ghost use Rattle.rates.specs.Pairs.Couple.{no_couple};
 ghost use Rattle.rates.specs.PairLaws.{pair_laws};
+ghost use Rattle.rates.specs.Texts.{joined_texts};
 
 use crate::kind::{Rate, Strict};
 use crate::many::is_none;
+use std::fmt;
 
 // A pair one of whose parts is none means none.
-#[derive(Clone, Copy)]
+#[derive(Clone, Copy, Debug)]
 pub struct Pair<P, Q> {
     pub first: P,
     pub second: Q,
@@ -75,5 +77,15 @@ impl<P: Strict, Q: Rate> Rate for Pair<P, Q> {
 
     fn is_lane_rate(self) -> bool {
         self.first.is_lane_rate() && self.second.is_lane_rate()
+    }
+}
+
+impl<P: fmt::Display, Q: fmt::Display> fmt::Display for Pair<P, Q> {
+    ghost output = { λ pair. joined_texts (P.output pair.first) (Q.output pair.second) };
+
+    fn fmt<W: fmt::Write>(&self, f: &mut fmt::Formatter<W>) -> fmt::Result {
+        let first = &self.first;
+        let second = &self.second;
+        write!(f, "{first}, {second}")
     }
 }

@@ -1,13 +1,15 @@
 // Tonnes: how much a lane or a trip can carry, or unlimited. None is 0 tonnes.
-ghost use Rattle.std.specs.Prelude.{◌≡◌, refl};
+ghost use Rattle.std.specs.Prelude.{◌≡◌, Some, refl};
 ghost use Rattle.rates.specs.Loads.{Load, tonnes_kind};
 ghost use Rattle.rates.specs.Meanings.{load_of};
 ghost use Rattle.rates.specs.LoadLaws.{tonnes_laws};
+ghost use Rattle.rates.specs.Texts.{tonnes_text};
 
 use crate::capped::Capped;
 use crate::kind::Rate;
+use std::fmt;
 
-#[derive(Clone, Copy)]
+#[derive(Clone, Copy, Debug)]
 pub enum Tonnes {
     UpTo(Capped),
     Unlimited,
@@ -54,6 +56,17 @@ impl Rate for Tonnes {
         match self {
             Tonnes::UpTo(a) => a.tonnes() > 0,
             Tonnes::Unlimited => false,
+        }
+    }
+}
+
+impl fmt::Display for Tonnes {
+    ghost output = { λ rate. Some (tonnes_text rate) };
+
+    fn fmt<W: fmt::Write>(&self, f: &mut fmt::Formatter<W>) -> fmt::Result {
+        match self {
+            Tonnes::Unlimited => write!(f, "unlimited"),
+            Tonnes::UpTo(capped) => write!(f, "{}", capped.tonnes()),
         }
     }
 }
