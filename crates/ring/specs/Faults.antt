@@ -60,6 +60,10 @@ Conflict e f = SameLink e f ⊎ Cross e f
 abbrev pub AmongFirst : (Ends → Ends → Type 0) → Ends → List Link → ℕ → Type 0
 AmongFirst R e links m = (k : ℕ) × (k < m) × R e (ends_at links k)
 
+-- It holds between e and one of the links.
+abbrev pub Among : (Ends → Ends → Type 0) → Ends → List Link → Type 0
+Among R e links = AmongFirst R e links (length links)
+
 -- It holds between the link i and an earlier one.
 abbrev pub Earlier : (Ends → Ends → Type 0) → List Link → ℕ → Type 0
 Earlier R links i = AmongFirst R (ends_at links i) links i

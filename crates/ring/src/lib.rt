@@ -79,7 +79,7 @@ pub enum PlanFault {
 }
 
 impl PlanFault {
-    // The number by which the fault is told.
+    // The number by which the fault is told, fixed for all who are told it, also across C: so no order of variants gives it.
     pub fn number(self) -> u8
         ensures { result ≡ fault_number self }
     {
