@@ -3,12 +3,15 @@
 
 ghost use Rattle.std.specs.Prelude.{◌≡◌, ◌+◌, ◌-◌, ◌*◌, ◌<◌, ◌≤◌, slice_set};
 ghost use Rattle.ring.specs.Linked.{link_at};
-ghost use Rattle.shapes.specs.Shapes.{Drawn, link_between, mixed_of, third_of, ThirdBy};
+ghost use Rattle.shapes.specs.Shapes.{Drawn, link_between, mixed_of, NamedBy, third_of, ThirdBy};
 
 use ring::Link;
+use std::error::Error;
+use std::fmt;
+use std::str::FromStr;
 
 // How the triangles lie.
-#[derive(Clone, Copy)]
+#[derive(Clone, Copy, Debug, PartialEq, Eq)]
 pub enum Shape {
     // All at terminal 0.
     Fan,
@@ -20,6 +23,35 @@ pub enum Shape {
     Scattered,
     // No links at all.
     Bare,
+}
+
+// The word names no shape.
+#[derive(Clone, Copy, Debug, PartialEq, Eq)]
+pub struct UnknownShape;
+
+impl fmt::Display for UnknownShape {
+    fn fmt<W: fmt::Write>(&self, f: &mut fmt::Formatter<W>) -> fmt::Result {
+        write!(f, "no shape has this name")
+    }
+}
+
+impl Error for UnknownShape {}
+
+impl FromStr for Shape {
+    type Err = UnknownShape;
+
+    ghost from_str_gives = { NamedBy };
+
+    fn from_str(word: &str) -> Result<Shape, UnknownShape> {
+        match word {
+            "fan" => Ok(Shape::Fan),
+            "zigzag" => Ok(Shape::Zigzag),
+            "balanced" => Ok(Shape::Balanced),
+            "scattered" => Ok(Shape::Scattered),
+            "none" => Ok(Shape::Bare),
+            _ => Err(UnknownShape),
+        }
+    }
 }
 
 // A number from 0 to 65,535 that looks random.
