@@ -70,7 +70,8 @@ fn mixed(low: u16, high: u16) -> u16
 // The third terminal of the triangle on the side from `low` to `high`.
 fn third(shape: Shape, low: u16, high: u16) -> u16
     requires { low + 1 < high }
-    ensures between { (low < result) × (result < high) }
+    ensures above_low { low < result }
+    ensures below_high { result < high }
     ensures lies { ThirdBy shape low result high }
     ensures chosen { result ≡ third_of shape low high }
 {
@@ -91,6 +92,7 @@ fn third(shape: Shape, low: u16, high: u16) -> u16
 fn put(links: &mut [Link], i: usize, link: Link)
     ensures { links.new ≡ slice_set links.old i link }
 {
+    // Not by `get_mut`: tried, no proof; of a slice it tells the length alone, and not what was written.
     if i < links.len() {
         links[i] = link;
     }
@@ -105,11 +107,9 @@ fn put_children(shape: Shape, links: &mut [Link], i: usize)
         at.from + 1 < at.to
         → links.new ≡ slice_set left_drawn (i + 2 * (c - at.from)) (link_between c at.to) }
 {
-    if i >= links.len() {
+    let Some(&Link { from, to }) = links.get(i) else {
         return;
-    }
-    let from = links[i].from;
-    let to = links[i].to;
+    };
     if to > from && to - from > 1 {
         let between = third(shape, from, to);
         put(links, i.saturating_add(1), Link { from, to: between });
@@ -127,6 +127,7 @@ pub fn draw_shape(shape: Shape, last: u16, links: &mut [Link])
     ensures { 1 ≤ last → Drawn shape last links.new }
 {
     put(links, 0, Link { from: 0, to: last });
+    // By index: a turn writes later places, which an iterator over the links has lent out.
     for i in 0..links.len() {
         put_children(shape, links, i);
     }
