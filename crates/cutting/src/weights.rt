@@ -1,4 +1,5 @@
 // How much lies below a side: holes, or triangles outside the holes.
+// Sides and holes stay two parameters: `triangles` is called so from outside, and a struct would only be taken apart again.
 ghost use Rattle.std.specs.Prelude.{◌≡◌, ◌-◌, ◌≤◌};
 ghost use Rattle.pieces.specs.Cuts.{load, triangles as triangles_of};
 ghost use Rattle.pieces.specs.Sides.{lengths};

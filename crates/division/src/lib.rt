@@ -31,12 +31,17 @@ pub enum Undivided {
 }
 
 impl fmt::Display for Undivided {
+    ghost use Rattle.std.specs.Prelude.{Some};
+    ghost use Rattle.division.specs.Outcome.{reason};
+
+    ghost output = { λ refusal. Some (reason refusal) };
+
     fn fmt<W: fmt::Write>(&self, f: &mut fmt::Formatter<W>) -> fmt::Result {
-        match self {
-            Undivided::Terminals => write!(f, "fewer than 3 terminals, or more than 4096"),
-            Undivided::Short => write!(f, "an area is too short"),
-            Undivided::NotFilled => write!(f, "the sides are no filled ring"),
-        }
+        f.write_str(match self {
+            Undivided::Terminals => "a ring has 3 to 4096 terminals",
+            Undivided::Short => "an area is too short",
+            Undivided::NotFilled => "the sides are no filled ring",
+        })
     }
 }
 
@@ -46,8 +51,8 @@ impl Error for Undivided {}
 impl From<Full> for Undivided {
     ghost from_gives = { λ _ e. e ≡ NotFilled };
 
-    fn from(_full: Full) -> Undivided {
-        Undivided::NotFilled
+    fn from(_full: Full) -> Self {
+        Self::NotFilled
     }
 }
 

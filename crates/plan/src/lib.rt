@@ -62,5 +62,4 @@ pub fn lay_out(
 // Two plans with equal n and links leave equal side and piece records.
 pub fn equal_plans_divide_alike()
     ensures { EqualPlansDivideAlike }
-{
-}
+{}

@@ -30,8 +30,12 @@ pub enum Shape {
 pub struct UnknownShape;
 
 impl fmt::Display for UnknownShape {
+    ghost use Rattle.std.specs.Prelude.{codes, Some};
+
+    ghost output = { λ _. Some (codes "no shape has this name") };
+
     fn fmt<W: fmt::Write>(&self, f: &mut fmt::Formatter<W>) -> fmt::Result {
-        write!(f, "no shape has this name")
+        f.write_str("no shape has this name")
     }
 }
 

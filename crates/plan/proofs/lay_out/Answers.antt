@@ -47,7 +47,7 @@ returns c =
     let w = room c.args.n (length c.args.sides.now) (length c.args.pieces.now) (length c.args.todo.now) links early in
     let T = c.in_ok-triangulate.ensures.left.triangulated in
     let done = always_divided c.args.n c.divide.result c.triangulate.new.sides c.divide.new.sides c.args.pieces.now c.args.todo.now c.divide.new.pieces
-        w.least w.most w.pieces w.list T c.divide.ensures in
+    w.least w.most w.pieces w.list T c.divide.ensures in
     let o = subst (λ (r : Result Unit Undivided). Outcome c.args.n c.triangulate.new.sides c.args.pieces.now c.args.todo.now r c.divide.new.sides c.divide.new.pieces) done c.divide.ensures in
     record {
       checked = all_areas c.args.n (length c.args.sides.now) (length c.args.pieces.now) (length c.args.todo.now) links early (Ok tt) c.in_ok-triangulate.ensures.checked;
