@@ -1,5 +1,5 @@
 // Telling the sides their leaf pieces. Nothing but the field `leaf` is written.
-ghost use Rattle.std.specs.Prelude.{◌≡◌, ◌≤◌, length};
+ghost use Rattle.std.specs.Prelude.{◌≡◌, length, min};
 ghost use Rattle.pieces.specs.Marks.{mark_all, mark_one, mark_piece, mark_triangle, mark_unit};
 
 use cutting::{left_of, length_of, right_of};
@@ -44,10 +44,9 @@ fn mark_piece(sides: &mut [Side], p: u16, piece: Piece)
     }
 }
 
-// Marks the sides of all uncut pieces.
+// Marks the sides of the uncut ones of the first `count` pieces.
 pub fn mark_leaves(sides: &mut [Side], count: u16, pieces: &[Piece])
-    requires room { count ≤ length pieces.now }
-    ensures { sides.new ≡ mark_all sides.old pieces.now count }
+    ensures { sides.new ≡ mark_all sides.old pieces.now (min count (length pieces.now)) }
 {
     for (p, piece) in (0..count).zip(pieces) {
         mark_piece(sides, p, *piece);

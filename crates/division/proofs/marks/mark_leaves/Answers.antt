@@ -22,7 +22,7 @@ loop-p-preserved c =
     (YieldsList-at c.into_iter-p-iterator.ensures.into_iter_gives
     (YieldsList-from_zip (YieldsList-from_range 0 c.args.count c.args.count c.zip-p-items.ensures.first (omega arith)) (YieldsList-from_slice ps c.zip-p-items.ensures.second.0)))
     c.loop-p.yielded c.loop-p.p-iterator c.loop-p.yielded_by c.next.result c.next.new.self (p, P) c.in-Some.is c.next.ensures.steps in
-    let m = numbered c.args.count ps c.requires.room i p P.now t.0 t.1 in
+    let m = numbered c.args.count ps i p P.now t.0 t.1 in
     let more : suc i ≡ length (c.loop-p.yielded ++ (p, P) ∷ []) = simp length-append (omega arith) in
     c.mark_piece.ensures
     ∙ ap (λ (xs : List Side). mark_piece xs p P.now) c.loop-p.invariant
@@ -37,4 +37,4 @@ returns c =
     (YieldsList-at c.into_iter-p-iterator.ensures.into_iter_gives
     (YieldsList-from_zip (YieldsList-from_range 0 c.args.count c.args.count c.zip-p-items.ensures.first (omega arith)) (YieldsList-from_slice ps c.zip-p-items.ensures.second.0)))
     c.loop-p.yielded c.loop-p.p-iterator c.loop-p.yielded_by c.next.result c.next.new.self c.in-None.is c.next.ensures.steps in
-    c.loop-p.invariant ∙ ap (mark_all c.args.sides.now ps) (numbered_all c.args.count ps c.requires.room (length c.loop-p.yielded) t.1)
+    c.loop-p.invariant ∙ ap (mark_all c.args.sides.now ps) (numbered_all c.args.count ps (length c.loop-p.yielded) t.1)
