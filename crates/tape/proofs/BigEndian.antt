@@ -36,6 +36,15 @@ four_back a b c d n ha hb hc hd e =
     let s : n % 256 ≡ d = omega arith in
     cc
 
+-- a number read from the bytes at a place writes them again
+pub two_at : (xs : List ℕ) (i n : ℕ) → ((k : ℕ) → get_or xs k 0 < 256) → i + 2 ≤ length xs → n ≡ get_or xs i 0 * 256 + get_or xs (i + 1) 0 → two n ≡ piece xs i 2
+two_at xs i n small h e = two_back (get_or xs i 0) (get_or xs (i + 1) 0) n (small i) (small (i + 1)) e ∙ sym (piece_two xs i h)
+
+pub four_at : (xs : List ℕ) (i n : ℕ) → ((k : ℕ) → get_or xs k 0 < 256) → i + 4 ≤ length xs → n ≡ get_or xs i 0 * 16777216 + get_or xs (i + 1) 0 * 65536 + get_or xs (i + 2) 0 * 256 + get_or xs (i + 3) 0 → four n ≡ piece xs i 4
+four_at xs i n small h e =
+    four_back (get_or xs i 0) (get_or xs (i + 1) 0) (get_or xs (i + 2) 0) (get_or xs (i + 3) 0) n (small i) (small (i + 1)) (small (i + 2)) (small (i + 3)) e
+    ∙ sym (piece_four xs i h)
+
 -- the signed reading of 32 bits has these bits
 pub bits_is : (z : ℤ) → bits z ≡ of_z w32 z
 bits_is (pos n) = refl

@@ -1,6 +1,7 @@
 -- Cutting a text at a character that does not stand in its first part.
 -- Assumes nothing but an ASCII character.
-use Rattle.std.proofs.Common.{◌≡◌, ℕ, zero, suc, ◌^◌, ◌<◌, Bool, true, not, ◌&&◌, eqb, List, [], ◌∷◌, ◌++◌, length, get_or, ℤ, pos, negsuc, decimal, sym, refl, ap, ◌∙◌, inl, inr, arith}
+use Rattle.std.proofs.Common.{◌≡◌, ◌≢◌, ℕ, zero, suc, ◌^◌, ◌<◌, ◌⊎◌, Bool, true, not, ◌&&◌, eqb, List, [], ◌∷◌, ◌++◌, length, get_or, ℤ, pos, negsuc, decimal, Option, Some, None, Bor, sym, refl, ap, ◌∙◌, subst, inl, inr, arith}
+use Rattle.std.specs.Option.{MatchOption, unwrap_or}
 use lib.Signed.{mag}
 use Rattle.std.specs.Fmt.{signed_decimal}
 use Rattle.std.proofs.lemmas.List.{get_or_at, length-append}
@@ -8,7 +9,14 @@ use Rattle.std.proofs.lemmas.Fmt.{digits_decimal}
 use Rattle.std.proofs.lemmas.Str.Parse.{IsNumeralModel, numerals_by_value, tells_digits, not_in_digits}
 use Rattle.std.proofs.lemmas.Bool.{eqb-false, and_parts, not-true}
 use Rattle.std.specs.Str.Parse.{AllDigits, digits_value}
-use Rattle.tape_text.specs.Parses.{Lacks, CutIs}
+use Rattle.tape_text.specs.Parses.{Lacks, CutThere, NoCut, CutIs}
+
+-- what a split at the first such character gives, or the whole text where there is none
+pub cut_or : (c : ℕ) (text : List ℕ) (o : Option (Bor (List ℕ) × Bor (List ℕ))) (d r : Bor (List ℕ) × Bor (List ℕ)) → r ≡ unwrap_or o d → d.0.now ≡ text → d.1.now ≡ []
+    → MatchOption o ((i : ℕ) → i < length text → get_or text i 0 ≢ c) (λ x. (text ≡ x.0.now ++ (c ∷ x.1.now)) × ((i : ℕ) → i < length x.0.now → get_or x.0.now i 0 ≢ c))
+    → CutThere text c r.0.now r.1.now ⊎ NoCut text c r.0.now r.1.now
+cut_or c text None d r e whole rest h = inr (record { none = h; whole = ap (λ p. p.0.now) e ∙ whole; rest = ap (λ p. p.1.now) e ∙ rest })
+cut_or c text (Some x) d r e whole rest h = inl (subst (λ p. CutThere text c p.0.now p.1.now) (sym e) (record { first = h.1; whole = h.0 }))
 
 -- where a text begins with a part that lacks the character, the cut comes right behind that part
 first_part : (c : ℕ) (p q xs ys : List ℕ) → p ++ (c ∷ q) ≡ xs ++ (c ∷ ys) → Lacks p c → Lacks xs c → (p ≡ xs) × (q ≡ ys)

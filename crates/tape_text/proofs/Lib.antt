@@ -2,4 +2,5 @@ mod Cuts
 mod Fields
 mod Lines
 mod Names
+mod Shown
 mod Spelling

@@ -3,7 +3,7 @@
 use Rattle.std.proofs.Common.{◌≡◌, ℕ, ◌+◌, ◌<◌, List, [], ◌++◌, length, get_or, take, codes, sym, ap, ◌∙◌}
 use Rattle.std.proofs.lemmas.List.{append_assoc, flat_map_more, take_more}
 use Rattle.tape.specs.declared.contents.Placed.{Placed}
-use Rattle.tape_text.specs.Texts.{line_of}
+use Rattle.tape.specs.Texts.{line_of}
 use Rattle.tape_text.specs.Listings.{lines_of}
 
 -- v is the text before a line, w after the line, z after its end

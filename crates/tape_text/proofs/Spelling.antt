@@ -7,7 +7,7 @@ use Rattle.tape.specs.declared.contents.Content.{Content}
 use Rattle.tape.specs.Laws.{Fits}
 use Rattle.tape_text.specs.declared.making.Line.{Line}
 use Rattle.tape_text.specs.declared.making.Line.TheVariants.{Remark, Record, Bad}
-use Rattle.tape_text.specs.Texts.{text_of}
+use Rattle.tape.specs.Texts.{text_of}
 use Rattle.tape_text.specs.Parses.{ParsedAs}
 use Rattle.tape_text.specs.Making.{Trimmed, BehindPlace, IsRemark, OnLine, LineIs, FirstLine, Spells, nothing, remark, said, IsGood, BadAt, first, later}
 
