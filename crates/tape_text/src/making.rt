@@ -90,17 +90,12 @@ pub fn read_text(heap: Global, text: &str) -> Result<Vec<Content>, MakeFault>
     ensures { Reads text.now result }
 {
     let mut contents = Vec::new(heap);
-    let mut rest = text;
-    let mut number = 1;
-    while !rest.is_empty() {
-        let (line, behind) = cut(rest, '\n');
+    for (i, line) in text.split_terminator('\n').enumerate() {
         match read_line(heap, line)? {
             Line::Remark => {}
             Line::Record(content) => contents.push(content)?,
-            Line::Bad => return Err(MakeFault::BadLine(number)),
+            Line::Bad => return Err(MakeFault::BadLine(i + 1)),
         }
-        rest = behind;
-        number += 1;
     }
     Ok(contents)
 }
