@@ -1,8 +1,8 @@
 -- The bytes of the number that some bytes write, read big-endian, are those bytes.
 -- Assumes that bytes are below 256.
-use Rattle.std.proofs.Common.{◌≡◌, ℕ, ◌+◌, ◌*◌, ◌/◌, ◌%◌, ◌^◌, ◌<◌, ◌≤◌, List, [], ◌∷◌, length, get_or, take, drop, ℤ, pos, negsuc, sym, refl, ap, ◌∙◌, arith, w32, SFits, to_z, of_z}
+use Rattle.std.proofs.Common.{◌≡◌, ℕ, ◌+◌, ◌*◌, ◌/◌, ◌%◌, ◌^◌, ◌<◌, ◌≤◌, List, [], ◌∷◌, length, get_or, take, drop, ℤ, pos, negsuc, sym, refl, ap, ◌∙◌, arith, w32, to_z, of_z}
 use Rattle.std.proofs.lemmas.List.{drop_more}
-use Rattle.std.proofs.lemmas.Int.{of_z-to_z, to_z-of_z}
+use Rattle.std.proofs.lemmas.Int.{of_z-to_z}
 use Rattle.tape.specs.Areas.{piece}
 use Rattle.tape.specs.Contents.{two, four, bits}
 
@@ -57,6 +57,3 @@ bits_back n h = bits_is (to_z w32 n) ∙ of_z-to_z w32 n h
 pub signed_back : (n : ℕ) (z : ℤ) → n < 2 ^ 32 → z ≡ to_z w32 n → four (bits (to_z w32 (of_z w32 z))) ≡ four n
 signed_back n z small e =
     ap four (ap (λ y. bits (to_z w32 (of_z w32 y))) e ∙ ap (λ m. bits (to_z w32 m)) (of_z-to_z w32 n small) ∙ bits_back n small)
-
-pub bits_through : (z : ℤ) → SFits w32 z → of_z w32 (to_z w32 (of_z w32 z)) ≡ bits z
-bits_through z h = ap (of_z w32) (to_z-of_z w32 z h) ∙ sym (bits_is z)

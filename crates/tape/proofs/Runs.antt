@@ -13,9 +13,6 @@ use Rattle.tape.specs.Reads.{part, WrongAt, Faulted, Shown, NextIs, ItemIs}
 pub record Before (t : List ℕ) (p : ℕ) (shown : List Part) : Type 0 where
   pub goes_on : (rs : List Part) (e : Ending) → From t p rs e → Means t (shown ++ rs) e
 
-pub none_before : (t : List ℕ) → Before t 0 []
-none_before t = record { goes_on = λ rs e m. m }
-
 pub one_more : (t : List ℕ) (p q : ℕ) (shown : List Part) (x : Part) → Before t p shown → Shown t p x q → Before t q (shown ++ x ∷ [])
 one_more t p q shown x b s =
     record {

@@ -19,9 +19,6 @@ pub record SoFar (text rest : List ℕ) (number : ℕ) (done : List Content) : T
   pub few : number + length rest ≤ length text + 1
   pub counted : 1 ≤ number
 
-pub none_read : (text : List ℕ) → SoFar text text 1 []
-none_read text = record { spelled = λ cs s. s; bad = λ n b. (n, omega arith, b); few = omega arith; counted = omega arith }
-
 -- behind a line that was cut off, less is left
 pub less_left : (text line rest : List ℕ) → FirstLine text line rest → length rest < length text
 less_left text line rest f = elim (f.cut (omega arith)) [
