@@ -36,6 +36,7 @@ impl fmt::Display for NoKind {
 
 impl Error for NoKind {}
 
+// The numbers once more, since nothing leads from a number back to its variant.
 impl TryFrom<u8> for Kind {
     type Error = NoKind;
 

@@ -8,7 +8,7 @@ use crate::contents::Content;
 use crate::faults::{Fault, WriteFault};
 use crate::reading::Reader;
 
-// The number of records on a regular tape, or its fault.
+// The number of records on a regular tape, or its fault. No `count`, which would not stop at a fault.
 pub fn count_records(tape: &[u8]) -> Result<usize, Fault>
     ensures { Counts tape.now result }
 {

@@ -17,7 +17,7 @@ fn put_body(area: &mut [u8], body: &[u8])
 }
 
 impl Content {
-    // The kind of record that says this.
+    // The kind of record that says this: an arm for each kind, since no derive names a variant without its fields.
     pub fn kind(&self) -> Kind
         ensures { result ≡ kind_of self.now }
     {
