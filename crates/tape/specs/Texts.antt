@@ -9,6 +9,7 @@ use Rattle.tape.specs.declared.contents.HeadFields.{HeadFields}
 use Rattle.tape.specs.declared.contents.Content.{Content}
 use Rattle.tape.specs.declared.contents.Content.TheVariants.{Head, Link, PlanEnd, Post, Shut, Try, Keep, Withdraw, Quote, Route}
 use Rattle.tape.specs.declared.contents.Placed.{Placed}
+use Rattle.tape.specs.Kinds.{kind_name}
 
 -- the fields of a body, each that is no terminal behind its name
 abbrev pub ends_words : Ends → List ℕ
@@ -23,19 +24,6 @@ abbrev pub head_words : HeadFields → List ℕ
 head_words h =
     codes "rates " ++ (decimal h.rate_kind ++ (codes " book " ++ (decimal h.book
     ++ (codes " terminals " ++ (decimal h.terminals ++ (codes " meter " ++ decimal h.meter))))))
-
--- the names of the kinds
-abbrev pub kind_name : Kind → List ℕ
-kind_name Kind.Head = codes "head"
-kind_name Kind.Link = codes "link"
-kind_name Kind.PlanEnd = codes "plan-end"
-kind_name Kind.Post = codes "post"
-kind_name Kind.Shut = codes "shut"
-kind_name Kind.Try = codes "try"
-kind_name Kind.Keep = codes "keep"
-kind_name Kind.Withdraw = codes "withdraw"
-kind_name Kind.Quote = codes "quote"
-kind_name Kind.Route = codes "route"
 
 -- a name and what follows it
 abbrev pub named : List ℕ → List ℕ → List ℕ
