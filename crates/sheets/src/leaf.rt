@@ -8,7 +8,7 @@ ghost use Rattle.piece_rates.specs.Sheets.{SheetShows};
 ghost use Rattle.piece_rates.specs.Triangles.{third_corner};
 ghost use Rattle.sheets.specs.Triangles.{IsTriangleOn, triangle_best, triangle_lanes, triangle_place};
 
-use crate::cells::{ROW, SHEET, better_joined, rate_at};
+use crate::cells::{ROW, SHEET, better_joined, rate_at, write_each};
 use holders::side_at;
 use rates::kind::Rate;
 use records::{Few, Piece};
@@ -138,7 +138,5 @@ pub fn write_leaf<R: Rate>(sides: &[Side], lanes: &[R], piece: Piece, sheet: &mu
     }
     let t = triangle_on(sides, lanes, piece.top);
     let count = piece.edges.len();
-    for k in 0..SHEET {
-        sheet[k] = leaf_at(t, piece.edges, count, k);
-    }
+    write_each(&mut sheet[..SHEET], |k| leaf_at(t, piece.edges, count, k));
 }
