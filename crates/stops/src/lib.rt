@@ -1,11 +1,18 @@
 // The stops of a trip that is being written: one more stop, or the trip cut back where it passed the terminal before.
 #![tactic(auto)]
 
-ghost use Rattle.std.specs.Prelude.{◌≡◌, ◌≤◌, min, length, take};
+ghost use Rattle.std.specs.Prelude.{◌≡◌, ◌≤◌, ◌==◌, min, length, position, take};
 ghost use Rattle.piece_rates.specs.Climbing.{place};
 ghost use Rattle.stops.specs.Passing.{LoopsAreCut, Passed};
 
 use rates::kind::Rate;
+
+// The first place of the terminal among the stops.
+fn place_among(stops: &[u16], terminal: u16) -> Option<usize>
+    ensures { result ≡ position (λ stop. stop == terminal) stops.now }
+{
+    stops.iter().position(|stop| *stop == terminal)
+}
 
 // The first `count` places hold the stops so far.
 #[derive(Drop)]
@@ -37,10 +44,7 @@ impl<'a> Stops<'a> {
     fn place_of(&self, terminal: u16) -> usize
         ensures { result ≡ place (take self.now.count self.now.places.now) terminal }
     {
-        self.places[..self.count]
-            .iter()
-            .position(|stop| *stop == terminal)
-            .unwrap_or(self.count)
+        place_among(&self.places[..self.count], terminal).unwrap_or(self.count)
     }
 
     // Puts a terminal behind the stops. Where it stands among them, the loop that ends there is left out: the stops are cut
@@ -60,5 +64,4 @@ impl<'a> Stops<'a> {
 // Where no closed trip earns, passing one more terminal that way keeps a trip without a terminal twice, at a rate no worse.
 pub fn loops_are_cut<R: Rate>()
     ensures { LoopsAreCut R.kind }
-{
-}
+{}
