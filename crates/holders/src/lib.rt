@@ -1,6 +1,8 @@
 // The pieces that hold a lane: its leaf piece and those above it. Records of any content are walked safely and in few steps.
 #![tactic(auto)]
 
+mod reads;
+
 ghost use Rattle.std.specs.Prelude.{◌≡◌, ℕ, ◌+◌, ◌*◌, ◌<◌, ◌≤◌, length, take, drop, if◌then◌else◌, Some, None};
 ghost use Rattle.holders.specs.Walks.{Walked};
 ghost use Rattle.pieces.specs.Division.{Division, LeavesMarked};
@@ -8,6 +10,7 @@ ghost use Rattle.pieces.specs.Holders.{climbs, LaneHolders, WayUp};
 ghost use Rattle.pieces.specs.Holding.{piece_at};
 ghost use Rattle.pieces.specs.Sides.{Ends, Filled, span};
 
+pub use reads::{Records, piece_at, side_at};
 use records::Piece;
 use ring::Side;
 

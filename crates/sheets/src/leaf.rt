@@ -1,14 +1,15 @@
 // The sheet of a piece of one triangle, from its lanes.
-ghost use Rattle.std.specs.Prelude.{◌≡◌, ℕ, ◌+◌, ◌*◌, ◌/◌, ◌%◌, ◌<◌, ◌≤◌, cond, ◌&&◌, List, map, length, drop, slice_index_or};
+ghost use Rattle.std.specs.Prelude.{◌≡◌, ℕ, ◌+◌, ◌*◌, ◌/◌, ◌%◌, ◌<◌, ◌≤◌, cond, ◌&&◌, List, map, length, drop};
 ghost use Rattle.trips.specs.Trips.{LaneMap};
 ghost use Rattle.records.specs.Few.{listed};
-ghost use Rattle.pieces.specs.Sides.{Ends, ends_of, no_side};
+ghost use Rattle.pieces.specs.Sides.{Ends, ends_of};
 ghost use Rattle.piece_rates.specs.Leaves.{along, corner_lanes, LanesWithin, LeafSheet, LeafStands, rate_if};
 ghost use Rattle.piece_rates.specs.Sheets.{SheetShows};
 ghost use Rattle.piece_rates.specs.Triangles.{third_corner, triangle_entry};
 ghost use Rattle.sheets.specs.Triangles.{leaf_place, TriangleRead};
 
 use crate::cells::{ROW, SHEET, better_joined, rate_at};
+use holders::side_at;
 use rates::kind::Rate;
 use records::{Few, Piece};
 use ring::Side;
@@ -29,21 +30,6 @@ pub struct Triangle<R> {
     pub left: Both<R>,
     pub right: Both<R>,
     pub base: Both<R>,
-}
-
-// The record of a side; past the last, all fields are 0.
-pub fn side_at(sides: &[Side], i: u32) -> Side
-    ensures { result ≡ slice_index_or sides.now i no_side }
-{
-    if i as usize >= sides.len() {
-        return Side {
-            low: 0,
-            high: 0,
-            link: false,
-            leaf: 0,
-        };
-    }
-    sides[i as usize]
 }
 
 // The lanes of a side; none where they are not counted.
