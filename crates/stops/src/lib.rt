@@ -51,6 +51,7 @@ impl<'a> Stops<'a> {
     // back to it. Without room for one more, nothing is written.
     pub fn pass(&mut self, terminal: u16)
         ensures passed { Passed self.old.places.now self.old.count terminal self.new.count self.new.places.now }
+        ensures same_room { length self.new.places.now ≡ length self.old.places.now }
         ensures held { self.new.places.ghost_name ≡ self.old.places.ghost_name }
     {
         let k = self.place_of(terminal);
