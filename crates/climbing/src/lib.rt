@@ -9,35 +9,27 @@ ghost use Rattle.climbing.specs.Ways.{WaysDown, WaysPart, WaysUp};
 use rates::kind::Rate;
 
 // A line climbed over a seam shows the best rates over both parts; two lines give the best rate between their terminals.
-pub fn lines_climb<R: Rate>() -> u8
+pub fn lines_climb<R: Rate>()
     ensures climb { LinesClimb R.kind }
     ensures meet { LinesMeet R.kind }
     ensures within { LinesAreWithin R.kind }
-{
-    0
-}
+{}
 
 // The rows and columns of a sheet are lines, and so are the best rates within a triangle.
-pub fn lines_begin<R: Rate>() -> u8
+pub fn lines_begin<R: Rate>()
     ensures sheets { SheetsHaveLines R.kind }
     ensures triangles { TrianglesHaveLines R.kind }
-{
-    0
-}
+{}
 
 // A way down towards one terminal or two stays with pieces that touch them, or parts; the way up comes back.
-pub fn ways_found() -> u8
+pub fn ways_found()
     ensures down { WaysDown }
     ensures part { WaysPart }
     ensures up { WaysUp }
     ensures parted { PartedBetweenChildren }
-{
-    0
-}
+{}
 
 // In a plan in order, lines climb from each piece to its parent and meet there.
-pub fn steps_keep<R: Rate>() -> u8
+pub fn steps_keep<R: Rate>()
     ensures { StepsKeep R.kind }
-{
-    0
-}
+{}

@@ -4,17 +4,15 @@ ghost use Rattle.piece_rates.specs.Sheets.{sheet_of};
 ghost use Rattle.climbing.specs.Lines.{cells};
 ghost use Rattle.quoting.specs.Places.{cell_at};
 
+use holders::Records;
 use rates::kind::Rate;
-use records::Piece;
-use ring::Side;
 use sheets::{SHEET, rate_at};
 
 // The number of terminals, and the areas that a plan's records, lanes and sheets stand in.
 #[derive(Clone, Copy)]
 pub struct Areas<'a, R> {
     pub n: usize,
-    pub sides: &'a [Side],
-    pub pieces: &'a [Piece],
+    pub records: Records<'a>,
     pub lanes: &'a [R],
     pub sheets: &'a [R],
 }

@@ -5,7 +5,6 @@ ghost use Rattle.trips.specs.Trips.{LaneMap};
 ghost use Rattle.records.specs.Few.{Among, listed};
 ghost use Rattle.pieces.specs.Sides.{ends_of};
 ghost use Rattle.pieces.specs.Holding.{piece_at};
-ghost use Rattle.piece_rates.specs.Changes.{InOrder};
 ghost use Rattle.piece_rates.specs.Leaves.{corner_lanes, LanesWithin};
 ghost use Rattle.piece_rates.specs.Sheets.{sheet_of};
 ghost use Rattle.piece_rates.specs.Sizes.{largest, Within};
@@ -13,6 +12,7 @@ ghost use Rattle.piece_rates.specs.Touching.{Touches};
 ghost use Rattle.piece_rates.specs.Triangles.{triangle_entry};
 ghost use Rattle.climbing.specs.Lines.{LineShows, turned};
 ghost use Rattle.climbing.specs.Ways.{Reaches};
+ghost use Rattle.quoting.specs.Areas.{PlanInOrder};
 ghost use Rattle.quoting.specs.Places.{by_ends_at, by_line_at, cell_at, climb_at, climbed_at, shown, to_end_at};
 
 use crate::areas::{Areas, cell_of};
@@ -109,15 +109,15 @@ fn triangle_line<R: Rate>(t: Triangle<R>, edges: Few, into: bool, u: u16) -> Lin
 
 // The line of the terminal u at a piece that has it as an edge terminal or is a single triangle.
 fn first_line<R: Rate>(areas: Areas<'_, R>, p: u16, into: bool, u: u16) -> Line<R>
-    ensures { (n : ℕ) (m : LaneMap R.Member) → InOrder R.kind n m areas.entry.sides.now areas.entry.pieces.now (map R.means areas.entry.lanes.now) (map R.means areas.entry.sheets.now) → p + 5 < 2 * n → ((piece_at areas.entry.pieces.now p).first ≡ 0) ⊎ Among u (listed (piece_at areas.entry.pieces.now p).edges) → LineShows R.kind n (ends_of areas.entry.sides.now) (piece_at areas.entry.pieces.now p) m into u (shown R.means result) }
+    ensures { (n : ℕ) (m : LaneMap R.Member) → PlanInOrder R.kind R.means areas.entry n m → p + 5 < 2 * n → ((piece_at areas.entry.records.pieces.now p).first ≡ 0) ⊎ Among u (listed (piece_at areas.entry.records.pieces.now p).edges) → LineShows R.kind n (ends_of areas.entry.records.sides.now) (piece_at areas.entry.records.pieces.now p) m into u (shown R.means result) }
 {
-    let piece = piece_at(areas.pieces, p);
+    let piece = piece_at(areas.records.pieces, p);
     let i = place_of(piece.edges, u);
     if (i as usize) < piece.edges.len() {
         sheet_line(areas.sheets, p, into, i)
     } else {
         triangle_line(
-            triangle_on(areas.sides, areas.lanes, piece.top),
+            triangle_on(areas.records.sides, areas.lanes, piece.top),
             piece.edges,
             into,
             u,
@@ -244,7 +244,7 @@ fn climb_to<R: Rate>(
     into: bool,
     line: Line<R>,
 ) -> Line<R>
-    ensures { (n : ℕ) (m : LaneMap R.Member) (u : ℕ) → InOrder R.kind n m areas.entry.sides.now areas.entry.pieces.now (map R.means areas.entry.lanes.now) (map R.means areas.entry.sheets.now) → Reaches n (ends_of areas.entry.sides.now) areas.entry.pieces.now stop u from → LineShows R.kind n (ends_of areas.entry.sides.now) (piece_at areas.entry.pieces.now from) m into u (shown R.means line) → LineShows R.kind n (ends_of areas.entry.sides.now) (piece_at areas.entry.pieces.now stop) m into u (shown R.means result) }
+    ensures { (n : ℕ) (m : LaneMap R.Member) (u : ℕ) → PlanInOrder R.kind R.means areas.entry n m → Reaches n (ends_of areas.entry.records.sides.now) areas.entry.records.pieces.now stop u from → LineShows R.kind n (ends_of areas.entry.records.sides.now) (piece_at areas.entry.records.pieces.now from) m into u (shown R.means line) → LineShows R.kind n (ends_of areas.entry.records.sides.now) (piece_at areas.entry.records.pieces.now stop) m into u (shown R.means result) }
 {
     let mut p = from;
     let mut reached = line;
@@ -252,7 +252,7 @@ fn climb_to<R: Rate>(
         if p == stop {
             return reached;
         }
-        let step = step_from(areas.sides, areas.pieces, p);
+        let step = step_from(areas.records.sides, areas.records.pieces, p);
         reached = climb(step, areas.sheets, into, reached);
         p = step.up;
     }
@@ -261,8 +261,8 @@ fn climb_to<R: Rate>(
 
 // The line of the terminal u at the piece p.
 pub(crate) fn line_at<R: Rate>(areas: Areas<'_, R>, p: u16, into: bool, u: u16) -> Line<R>
-    ensures { (n : ℕ) (m : LaneMap R.Member) → InOrder R.kind n m areas.entry.sides.now areas.entry.pieces.now (map R.means areas.entry.lanes.now) (map R.means areas.entry.sheets.now) → p + 5 < 2 * n → Touches n (ends_of areas.entry.sides.now) (piece_at areas.entry.pieces.now p) u → LineShows R.kind n (ends_of areas.entry.sides.now) (piece_at areas.entry.pieces.now p) m into u (shown R.means result) }
+    ensures { (n : ℕ) (m : LaneMap R.Member) → PlanInOrder R.kind R.means areas.entry n m → p + 5 < 2 * n → Touches n (ends_of areas.entry.records.sides.now) (piece_at areas.entry.records.pieces.now p) u → LineShows R.kind n (ends_of areas.entry.records.sides.now) (piece_at areas.entry.records.pieces.now p) m into u (shown R.means result) }
 {
-    let start = start_below(areas.sides, areas.pieces, p, u);
+    let start = start_below(areas.records.sides, areas.records.pieces, p, u);
     climb_to(areas, start, p, into, first_line(areas, start, into, u))
 }

@@ -3,14 +3,12 @@ ghost use Rattle.std.specs.Prelude.{◌≡◌, ℕ, ◌+◌, ◌*◌, ◌<◌, t
 ghost use Rattle.trips.specs.Trips.{BestRate, LaneMap};
 ghost use Rattle.pieces.specs.Sides.{ends_of};
 ghost use Rattle.pieces.specs.Holding.{piece_at};
-ghost use Rattle.piece_rates.specs.Changes.{InOrder};
-ghost use Rattle.piece_rates.specs.Lanes.{piece_lanes};
 ghost use Rattle.piece_rates.specs.Sheets.{sheet_of};
 ghost use Rattle.piece_rates.specs.Sizes.{Within};
-ghost use Rattle.piece_rates.specs.Touching.{Touches};
 ghost use Rattle.climbing.specs.Lines.{LineShows};
 ghost use Rattle.climbing.specs.Steps.{lanes_of};
 ghost use Rattle.climbing.specs.Ways.{Ending, Parts, Reaches};
+ghost use Rattle.quoting.specs.Areas.{BestWithin, PlanInOrder, TouchesPiece};
 ghost use Rattle.quoting.specs.Places.{by_seam_at, shown};
 
 use crate::areas::{Areas, cell_of};
@@ -43,7 +41,7 @@ fn pass_to<R: Rate>(
     last: Line<R>,
     known: R,
 ) -> R
-    ensures { (n : ℕ) (m : LaneMap R.Member) (u v : ℕ) → InOrder R.kind n m areas.entry.sides.now areas.entry.pieces.now (map R.means areas.entry.lanes.now) (map R.means areas.entry.sheets.now) → Reaches n (ends_of areas.entry.sides.now) areas.entry.pieces.now stop u from → Reaches n (ends_of areas.entry.sides.now) areas.entry.pieces.now stop v from → LineShows R.kind n (ends_of areas.entry.sides.now) (piece_at areas.entry.pieces.now from) m false u (shown R.means first) → LineShows R.kind n (ends_of areas.entry.sides.now) (piece_at areas.entry.pieces.now from) m true v (shown R.means last) → BestRate R.kind (lanes_of R.kind n (ends_of areas.entry.sides.now) areas.entry.pieces.now m from) u v (R.means known) → BestRate R.kind (lanes_of R.kind n (ends_of areas.entry.sides.now) areas.entry.pieces.now m stop) u v (R.means result) }
+    ensures { (n : ℕ) (m : LaneMap R.Member) (u v : ℕ) → PlanInOrder R.kind R.means areas.entry n m → Reaches n (ends_of areas.entry.records.sides.now) areas.entry.records.pieces.now stop u from → Reaches n (ends_of areas.entry.records.sides.now) areas.entry.records.pieces.now stop v from → LineShows R.kind n (ends_of areas.entry.records.sides.now) (piece_at areas.entry.records.pieces.now from) m false u (shown R.means first) → LineShows R.kind n (ends_of areas.entry.records.sides.now) (piece_at areas.entry.records.pieces.now from) m true v (shown R.means last) → BestRate R.kind (lanes_of R.kind n (ends_of areas.entry.records.sides.now) areas.entry.records.pieces.now m from) u v (R.means known) → BestRate R.kind (lanes_of R.kind n (ends_of areas.entry.records.sides.now) areas.entry.records.pieces.now m stop) u v (R.means result) }
 {
     let mut p = from;
     let mut row = first;
@@ -53,7 +51,7 @@ fn pass_to<R: Rate>(
         if p == stop {
             return best;
         }
-        let step = step_from(areas.sides, areas.pieces, p);
+        let step = step_from(areas.records.sides, areas.records.pieces, p);
         best = better_of_two(best, by_seam(step, areas.sheets, row, step.own, column));
         row = climb(step, areas.sheets, false, row);
         column = climb(step, areas.sheets, true, column);
@@ -64,9 +62,9 @@ fn pass_to<R: Rate>(
 
 // The best rate within a piece that has both terminals as edge terminals or is a single triangle.
 fn near_rate<R: Rate>(areas: Areas<'_, R>, p: u16, from: u16, to: u16) -> R
-    ensures { (n : ℕ) (m : LaneMap R.Member) → InOrder R.kind n m areas.entry.sides.now areas.entry.pieces.now (map R.means areas.entry.lanes.now) (map R.means areas.entry.sheets.now) → p + 5 < 2 * n → Ending (piece_at areas.entry.pieces.now p) from to → BestRate R.kind (lanes_of R.kind n (ends_of areas.entry.sides.now) areas.entry.pieces.now m p) from to (R.means result) }
+    ensures { (n : ℕ) (m : LaneMap R.Member) → PlanInOrder R.kind R.means areas.entry n m → p + 5 < 2 * n → Ending (piece_at areas.entry.records.pieces.now p) from to → BestRate R.kind (lanes_of R.kind n (ends_of areas.entry.records.sides.now) areas.entry.records.pieces.now m p) from to (R.means result) }
 {
-    let piece = piece_at(areas.pieces, p);
+    let piece = piece_at(areas.records.pieces, p);
     if both_on_edge(piece, from, to) {
         cell_of(
             areas.sheets,
@@ -76,13 +74,17 @@ fn near_rate<R: Rate>(areas: Areas<'_, R>, p: u16, from: u16, to: u16) -> R
             place_of(piece.edges, to),
         )
     } else {
-        leaf_entry(triangle_on(areas.sides, areas.lanes, piece.top), from, to)
+        leaf_entry(
+            triangle_on(areas.records.sides, areas.lanes, piece.top),
+            from,
+            to,
+        )
     }
 }
 
 // The best rate at the piece `stop`, by way of a piece below it at which the way down towards both terminals ends.
 fn joined_rate<R: Rate>(areas: Areas<'_, R>, p: u16, stop: u16, from: u16, to: u16) -> R
-    ensures { (n : ℕ) (m : LaneMap R.Member) → InOrder R.kind n m areas.entry.sides.now areas.entry.pieces.now (map R.means areas.entry.lanes.now) (map R.means areas.entry.sheets.now) → Parts n (ends_of areas.entry.sides.now) areas.entry.pieces.now stop from to p → Ending (piece_at areas.entry.pieces.now p) from to → BestRate R.kind (lanes_of R.kind n (ends_of areas.entry.sides.now) areas.entry.pieces.now m stop) from to (R.means result) }
+    ensures { (n : ℕ) (m : LaneMap R.Member) → PlanInOrder R.kind R.means areas.entry n m → Parts n (ends_of areas.entry.records.sides.now) areas.entry.records.pieces.now stop from to p → Ending (piece_at areas.entry.records.pieces.now p) from to → BestRate R.kind (lanes_of R.kind n (ends_of areas.entry.records.sides.now) areas.entry.records.pieces.now m stop) from to (R.means result) }
 {
     let known = near_rate(areas, p, from, to);
     if p == stop {
@@ -95,11 +97,11 @@ fn joined_rate<R: Rate>(areas: Areas<'_, R>, p: u16, stop: u16, from: u16, to: u
 
 // The best rate at the piece `stop`, by way of a piece below it that is parted between the two terminals.
 fn parted_rate<R: Rate>(areas: Areas<'_, R>, p: u16, stop: u16, from: u16, to: u16) -> R
-    ensures { (n : ℕ) (m : LaneMap R.Member) → InOrder R.kind n m areas.entry.sides.now areas.entry.pieces.now (map R.means areas.entry.lanes.now) (map R.means areas.entry.sheets.now) → Parts n (ends_of areas.entry.sides.now) areas.entry.pieces.now stop from to p → (Ending (piece_at areas.entry.pieces.now p) from to → ⊥) → BestRate R.kind (lanes_of R.kind n (ends_of areas.entry.sides.now) areas.entry.pieces.now m stop) from to (R.means result) }
+    ensures { (n : ℕ) (m : LaneMap R.Member) → PlanInOrder R.kind R.means areas.entry n m → Parts n (ends_of areas.entry.records.sides.now) areas.entry.records.pieces.now stop from to p → (Ending (piece_at areas.entry.records.pieces.now p) from to → ⊥) → BestRate R.kind (lanes_of R.kind n (ends_of areas.entry.records.sides.now) areas.entry.records.pieces.now m stop) from to (R.means result) }
 {
-    let own = child_towards(areas.sides, piece_at(areas.pieces, p), from);
-    let near = step_from(areas.sides, areas.pieces, own);
-    let far = step_from(areas.sides, areas.pieces, near.across.piece);
+    let own = child_towards(areas.records.sides, piece_at(areas.records.pieces, p), from);
+    let near = step_from(areas.records.sides, areas.records.pieces, own);
+    let far = step_from(areas.records.sides, areas.records.pieces, near.across.piece);
     let row = line_at(areas, own, false, from);
     let column = line_at(areas, near.across.piece, true, to);
     pass_to(
@@ -114,13 +116,13 @@ fn parted_rate<R: Rate>(areas: Areas<'_, R>, p: u16, stop: u16, from: u16, to: u
 
 // The best rate of the trips from one terminal of the piece `stop` to another over the lanes of that piece.
 pub fn best_within<R: Rate>(areas: Areas<'_, R>, stop: u16, from: u16, to: u16) -> R
-    ensures { (n : ℕ) (m : LaneMap R.Member) → InOrder R.kind n m areas.entry.sides.now areas.entry.pieces.now (map R.means areas.entry.lanes.now) (map R.means areas.entry.sheets.now) → stop + 5 < 2 * n → Touches n (ends_of areas.entry.sides.now) (piece_at areas.entry.pieces.now stop) from → Touches n (ends_of areas.entry.sides.now) (piece_at areas.entry.pieces.now stop) to → BestRate R.kind (piece_lanes R.kind n (ends_of areas.entry.sides.now) (piece_at areas.entry.pieces.now stop) m) from to (R.means result) }
+    ensures { (n : ℕ) (m : LaneMap R.Member) → PlanInOrder R.kind R.means areas.entry n m → stop + 5 < 2 * n → TouchesPiece areas.entry n stop from → TouchesPiece areas.entry n stop to → BestWithin R.kind R.means areas.entry n m stop from to result }
 {
     if from == to {
         return R::still();
     }
-    let p = parting_below(areas.sides, areas.pieces, stop, from, to);
-    if ends_there(piece_at(areas.pieces, p), from, to) {
+    let p = parting_below(areas.records.sides, areas.records.pieces, stop, from, to);
+    if ends_there(piece_at(areas.records.pieces, p), from, to) {
         joined_rate(areas, p, stop, from, to)
     } else {
         parted_rate(areas, p, stop, from, to)
@@ -129,7 +131,7 @@ pub fn best_within<R: Rate>(areas: Areas<'_, R>, stop: u16, from: u16, to: u16) 
 
 // The best rate of the trips from one terminal of the plan to another.
 pub fn best_rate<R: Rate>(areas: Areas<'_, R>, from: u16, to: u16) -> R
-    ensures { (n : ℕ) (m : LaneMap R.Member) → InOrder R.kind n m areas.entry.sides.now areas.entry.pieces.now (map R.means areas.entry.lanes.now) (map R.means areas.entry.sheets.now) → from < n → to < n → BestRate R.kind m from to (R.means result) }
+    ensures { (n : ℕ) (m : LaneMap R.Member) → PlanInOrder R.kind R.means areas.entry n m → from < n → to < n → BestRate R.kind m from to (R.means result) }
 {
     best_within(areas, 0, from, to)
 }

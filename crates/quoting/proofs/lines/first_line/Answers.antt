@@ -8,7 +8,7 @@ pub returns-then-i-len : goal.returns-then-i-len
 returns-then-i-len g c n lanes h l begins =
     let m = g.R.Rate.means in
     let a = c.args.areas in
-    line_by_sheet g.R.Rate.kind g.met.R.Rate.laws n lanes a.sides.now a.pieces.now (map m a.lanes.now) (map m a.sheets.now) h
+    line_by_sheet g.R.Rate.kind g.met.R.Rate.laws n lanes a.records.sides.now a.records.pieces.now (map m a.lanes.now) (map m a.sheets.now) h
     c.args.p c.args.u c.place_of-i.result c.piece_at-piece.result c.args.into (shown m c.sheet_line.result) l
     c.piece_at-piece.ensures c.place_of-i.ensures (omega (arith, c.len.ensures.is)) (eight_long m c.sheet_line.result) c.sheet_line.ensures
 
@@ -17,7 +17,7 @@ returns-else-i-len g c n lanes h l begins =
     let m = g.R.Rate.means in
     let a = c.args.areas in
     let t = c.triangle_on.result in
-    first_triangle g.R.Rate.kind g.met.R.Rate.laws n lanes a.sides.now a.pieces.now (map m a.lanes.now) (map m a.sheets.now) h
+    first_triangle g.R.Rate.kind g.met.R.Rate.laws n lanes a.records.sides.now a.records.pieces.now (map m a.lanes.now) (map m a.sheets.now) h
     c.args.p c.piece_at-piece.result c.piece_at-piece.ensures l
     t.low t.third t.high (m t.left.up) (m t.left.down) (m t.right.up) (m t.right.down) (m t.base.up) (m t.base.down) c.triangle_on.ensures
     c.args.into c.args.u c.place_of-i.result (shown m c.triangle_line.result) begins c.place_of-i.ensures (omega (arith, c.len.ensures.is))

@@ -8,7 +8,7 @@ pub returns-then-from-to : goal.returns-then-from-to
 returns-then-from-to g c n m h l tu tv =
     let f = g.R.Rate.means in
     let a = c.args.areas in
-    still_best g.R.Rate.kind g.met.R.Rate.laws n m a.sides.now a.pieces.now (map f a.lanes.now) (map f a.sheets.now) h
+    still_best g.R.Rate.kind g.met.R.Rate.laws n m a.records.sides.now a.records.pieces.now (map f a.lanes.now) (map f a.sheets.now) h
     c.args.stop c.args.from c.args.to (f c.still.result) c.if-from-to.true c.still.ensures
 
 pub returns-then-ends_there : goal.returns-then-ends_there
