@@ -5,8 +5,7 @@ use Rattle.std.specs.List.{flat_map}
 use Rattle.ring.specs.declared.Link.{Link}
 use Rattle.ring.specs.declared.Side.{Side}
 use Rattle.ring.specs.declared.PlanFault.{PlanFault}
-use Rattle.ring.specs.declared.PlanFault.TheVariants.{Terminals, ShortArea, BadEnds, Repeats, Crosses}
-use Rattle.ring.specs.Faults.{fault_number}
+use Rattle.ring.specs.Faults.{fault_number, faulty_link, reason}
 use Rattle.ring.specs.Linked.{ends_at}
 use Rattle.records.specs.declared.Piece.{Piece}
 use Rattle.records.specs.Few.{listed}
@@ -77,22 +76,6 @@ pub record SummaryText (laid : Laid) (words : List ℕ) : Type 0 where
   pub deepest : Deepest laid.pieces.items level
   pub most : MostHolders laid.sides.items laid.pieces.items holders
   pub text : words ≡ summary_text (vec_len laid.pieces) level holders
-
--- why a plan is refused, in words
-abbrev pub reason : PlanFault → List ℕ
-reason Terminals = codes "a ring has 3 to 4096 terminals"
-reason ShortArea = codes "an area is too short"
-reason (BadEnds i) = codes "an end is no terminal, or the ends are equal"
-reason (Repeats i) = codes "it repeats an earlier link"
-reason (Crosses i) = codes "it crosses an earlier link"
-
--- which link a fault is of, if it is one's
-abbrev pub faulty_link : PlanFault → Option ℕ
-faulty_link Terminals = None
-faulty_link ShortArea = None
-faulty_link (BadEnds i) = Some i
-faulty_link (Repeats i) = Some i
-faulty_link (Crosses i) = Some i
 
 -- the two ends of the link i, if there is such a link
 abbrev pub link_ends_text : List Link → ℕ → List ℕ
