@@ -1,5 +1,5 @@
 // Cents: a whole number, negative for a credit, or none.
-ghost use Rattle.std.specs.Prelude.{◌≡◌, ℕ, ◌+◌, ◌≤◌};
+ghost use Rattle.std.specs.Prelude.{◌≡◌, refl, ℕ, ◌+◌, ◌≤◌};
 ghost use Rattle.rates.specs.Kinds.{exact_size};
 ghost use Rattle.rates.specs.Amounts.{Amount, cents_kind, held};
 ghost use Rattle.rates.specs.Meanings.{amount_of};
@@ -16,6 +16,8 @@ pub enum Cents {
 impl Rate for Cents {
     const L: u64 = 1_000_000_000;
 
+    ghost L = { 1000000000 };
+
     ghost Member = { Amount };
 
     ghost kind = { cents_kind };
@@ -23,6 +25,8 @@ impl Rate for Cents {
     ghost means = { amount_of };
 
     ghost laws = { cents_laws };
+
+    ghost limited = { refl };
 
     fn still() -> Cents {
         Self::Whole(0)
@@ -55,10 +59,6 @@ impl Rate for Cents {
             Cents::None => false,
             Cents::Whole(a) => -1_000_000_000 <= a && a <= 1_000_000_000,
         }
-    }
-
-    fn lane_limit() -> u64 {
-        Self::L
     }
 }
 

@@ -1,5 +1,5 @@
 // Tonnes: how much a lane or a trip can carry, or unlimited. None is 0 tonnes.
-ghost use Rattle.std.specs.Prelude.{◌≡◌};
+ghost use Rattle.std.specs.Prelude.{◌≡◌, refl};
 ghost use Rattle.rates.specs.Loads.{Load, tonnes_kind};
 ghost use Rattle.rates.specs.Meanings.{load_of};
 ghost use Rattle.rates.specs.LoadLaws.{tonnes_laws};
@@ -16,6 +16,8 @@ pub enum Tonnes {
 impl Rate for Tonnes {
     const L: u64 = 0;
 
+    ghost L = { 0 };
+
     ghost Member = { Load };
 
     ghost kind = { tonnes_kind };
@@ -23,6 +25,8 @@ impl Rate for Tonnes {
     ghost means = { load_of };
 
     ghost laws = { tonnes_laws };
+
+    ghost limited = { refl };
 
     fn still() -> Tonnes {
         Tonnes::Unlimited
@@ -51,9 +55,5 @@ impl Rate for Tonnes {
             Tonnes::UpTo(a) => a.tonnes() > 0,
             Tonnes::Unlimited => false,
         }
-    }
-
-    fn lane_limit() -> u64 {
-        Self::L
     }
 }

@@ -1,3 +1,4 @@
+mod Positions
 pub mod Table
 pub mod RowOfLimits
 pub mod Absent
