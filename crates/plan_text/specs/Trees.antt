@@ -32,12 +32,18 @@ abbrev pub triangle_text : List Side → ℕ → List ℕ
 triangle_text sides i =
     decimal ((ends_of sides).low i) ++ (codes " " ++ (decimal ((ends_of sides).high (left i)) ++ (codes " " ++ decimal ((ends_of sides).high i))))
 
+-- the one triangle of a piece that is not cut
+abbrev pub single_text : List Side → ℕ → List ℕ
+single_text sides i = codes "triangle " ++ triangle_text sides i
+
+-- how many triangles a piece has, and its seam
+abbrev pub cut_text : List Side → Piece → List ℕ
+cut_text sides piece =
+    decimal (triangles (lengths sides) (listed piece.holes) piece.top) ++ (codes " triangles, seam " ++ ends_text sides piece.seam)
+
 -- what a piece is: its one triangle, or how many it has and its seam
 abbrev pub content_text : List Side → Piece → List ℕ
-content_text sides piece =
-    if piece.first == 0
-    then codes "triangle " ++ triangle_text sides piece.top
-    else decimal (triangles (lengths sides) (listed piece.holes) piece.top) ++ (codes " triangles, seam " ++ ends_text sides piece.seam)
+content_text sides piece = if piece.first == 0 then single_text sides piece.top else cut_text sides piece
 
 -- two blanks for each level
 abbrev pub indent : ℕ → List ℕ

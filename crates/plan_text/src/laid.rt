@@ -1,6 +1,6 @@
 // A plan, and a plan laid out in memory of the program's own.
-ghost use Rattle.std.specs.Prelude.{◌≡◌, ◌≤◌, [], IfErr, IfOk};
-ghost use Rattle.plan_text.specs.Laid.{Deepest, LaidOut, MostHolders, NotLaid, way_length};
+ghost use Rattle.std.specs.Prelude.{◌≡◌, ◌<◌, ◌≤◌, ℕ, [], IfErr, IfOk, length};
+ghost use Rattle.plan_text.specs.Laid.{Deepest, LaidOut, MostHolders, NotLaid, leaf_of, way_length};
 
 use cutting::whole;
 use division::TODO_PIECES;
@@ -98,16 +98,22 @@ fn holder_count(side: Side, pieces: &[Piece]) -> usize
     way_up(pieces, side.leaf, &mut numbers)
 }
 
+// The greatest of these counts.
+fn longest_way(sides: &[Side], pieces: &[Piece]) -> usize
+    ensures at_most { result ≤ 41 }
+    ensures none_longer { (i : ℕ) → i < length sides.now → way_length pieces.now (leaf_of sides.now i) ≤ result }
+    ensures reached { 0 < result → (i : ℕ) × (i < length sides.now) × (way_length pieces.now (leaf_of sides.now i) ≡ result) }
+{
+    let counts = sides.iter().map(|side| holder_count(*side, pieces));
+    counts.max().unwrap_or(0)
+}
+
 // The greatest number of pieces that hold one lane.
 pub fn most_holders(sides: &[Side], pieces: &[Piece]) -> usize
     ensures at_most { result ≤ 41 }
     ensures greatest { MostHolders sides.now pieces.now result }
 {
-    sides
-        .iter()
-        .map(|side| holder_count(*side, pieces))
-        .max()
-        .unwrap_or(0)
+    longest_way(sides, pieces)
 }
 
 // The deepest level of a piece.

@@ -1,7 +1,7 @@
 // The ring as an SVG picture: terminals on a circle, ring sides, links, sides of the fill, and seams coloured by level.
 ghost use Rattle.std.specs.Prelude.{◌≡◌, ◌*◌, ◌≤◌, Decides, OnOk};
 ghost use Rattle.plan_text.specs.Texts.{GrownBy, GrownByA};
-ghost use Rattle.plan_text.specs.Pictures.{are_neighbours, colour_text, head_text, InMargins, legend_text, legends_text, line_text, NearCircle, Neighbours, PictureText, point_at, radius, seam_text, seams_text, side_text, sides_text, sine, style_text, terminal_text, terminals_text, wave};
+ghost use Rattle.plan_text.specs.Pictures.{are_neighbours, broad_line_text, colour_text, InMargins, key_text, legend_text, legends_text, line_text, mark_text, NearCircle, Neighbours, PictureText, point_at, radius, seam_text, seams_text, side_text, sides_text, sine, sized_head_text, style_text, terminal_text, terminals_text, wave};
 
 use crate::laid::{Laid, deepest};
 use cutting::{high_end, low_end};
@@ -109,14 +109,16 @@ fn write_line(text: &mut String, from: Point, to: Point, style: &str) -> Result<
     )
 }
 
-// Writes the seam of a piece, as a broad line.
-#[tactic(auto, unfolding(crate::specs::Pictures::seam_text))]
-fn write_seam(text: &mut String, laid: &Laid, piece: Piece) -> Result<(), AllocError>
-    ensures { OnOk result (GrownBy text.old text.new (seam_text laid.now.terminals laid.now.sides.items piece)) }
+// Writes a broad line from one point to another, in a colour.
+#[tactic(auto, unfolding(crate::specs::Pictures::broad_line_text))]
+fn write_broad_line(
+    text: &mut String,
+    from: Point,
+    to: Point,
+    colour: &str,
+) -> Result<(), AllocError>
+    ensures { OnOk result (GrownBy text.old text.new (broad_line_text from to colour.now)) }
 {
-    let from = place(laid.terminals, low_end(&laid.sides, piece.seam));
-    let to = place(laid.terminals, high_end(&laid.sides, piece.seam));
-    let colour = level_colour(piece.level);
     write!(
         text,
         "<g stroke-width=\"9\" stroke-opacity=\"0.7\" stroke=\"{colour}\">"
@@ -125,13 +127,22 @@ fn write_seam(text: &mut String, laid: &Laid, piece: Piece) -> Result<(), AllocE
     writeln!(text, "</g>")
 }
 
+// Writes the seam of a piece, as a broad line.
+fn write_seam(text: &mut String, laid: &Laid, piece: Piece) -> Result<(), AllocError>
+    ensures { OnOk result (GrownBy text.old text.new (seam_text laid.now.terminals laid.now.sides.items piece)) }
+{
+    let from = place(laid.terminals, low_end(&laid.sides, piece.seam));
+    let to = place(laid.terminals, high_end(&laid.sides, piece.seam));
+    write_broad_line(text, from, to, level_colour(piece.level))
+}
+
 // Broad lines below the sides, one for each seam.
 fn write_seams(text: &mut String, laid: &Laid) -> Result<(), AllocError>
     ensures { OnOk result (GrownBy text.old text.new
         (seams_text laid.now.terminals laid.now.sides.items laid.now.pieces.items)) }
 {
     for piece in laid.pieces.iter() {
-        if piece.first > 0 {
+        if !piece.is_single() {
             write_seam(text, laid, *piece)?;
         }
     }
@@ -155,13 +166,14 @@ fn write_sides(text: &mut String, laid: &Laid) -> Result<(), AllocError>
     Ok(())
 }
 
-// Writes a terminal at its place, as a circle with the terminal's number in it.
+// Writes a circle with the terminal's number in it.
 #[tactic(auto, unfolding(crate::specs::Pictures::mark_text))]
-fn write_terminal(text: &mut String, terminals: usize, terminal: u16) -> Result<(), AllocError>
-    ensures { OnOk result (GrownBy text.old text.new (terminal_text terminals terminal)) }
+fn write_mark(text: &mut String, at: Point, terminal: u16) -> Result<(), AllocError>
+    requires { InMargins at }
+    ensures { OnOk result (GrownBy text.old text.new (mark_text at terminal)) }
 {
-    let Point { x, y } = place(terminals, terminal);
-    let below = y.saturating_add(4);
+    let Point { x, y } = at;
+    let below = y + 4;
     writeln!(
         text,
         "<circle r=\"11\" fill=\"#fff\" stroke=\"#000\" cx=\"{x}\" cy=\"{y}\"/>"
@@ -170,6 +182,13 @@ fn write_terminal(text: &mut String, terminals: usize, terminal: u16) -> Result<
         text,
         "<text text-anchor=\"middle\" x=\"{x}\" y=\"{below}\">{terminal}</text>"
     )
+}
+
+// Writes a terminal at its place.
+fn write_terminal(text: &mut String, terminals: usize, terminal: u16) -> Result<(), AllocError>
+    ensures { OnOk result (GrownBy text.old text.new (terminal_text terminals terminal)) }
+{
+    write_mark(text, place(terminals, terminal), terminal)
 }
 
 fn write_terminals(text: &mut String, terminals: usize) -> Result<(), AllocError>
@@ -181,17 +200,23 @@ fn write_terminals(text: &mut String, terminals: usize) -> Result<(), AllocError
     Ok(())
 }
 
-// Writes what the colour of a level means.
-#[tactic(auto, unfolding(crate::specs::Pictures::legend_text))]
-fn write_level(text: &mut String, level: u8) -> Result<(), AllocError>
-    ensures { OnOk result (GrownBy text.old text.new (legend_text level)) }
+// Writes the line of the legend for a level that has this colour.
+#[tactic(auto, unfolding(crate::specs::Pictures::key_text))]
+fn write_key(text: &mut String, level: u8, colour: &str) -> Result<(), AllocError>
+    ensures { OnOk result (GrownBy text.old text.new (key_text level colour.now)) }
 {
     let y = level as usize * 18 + 20;
-    let colour = level_colour(level);
     writeln!(
         text,
         "<text x=\"8\" y=\"{y}\" fill=\"{colour}\">seams at level {level}</text>"
     )
+}
+
+// Writes what the colour of a level means.
+fn write_level(text: &mut String, level: u8) -> Result<(), AllocError>
+    ensures { OnOk result (GrownBy text.old text.new (legend_text level)) }
+{
+    write_key(text, level, level_colour(level))
 }
 
 // What the colours mean.
@@ -205,11 +230,10 @@ fn write_levels(text: &mut String, last: u8) -> Result<(), AllocError>
 }
 
 // Writes what comes before the picture's parts: its size.
-#[tactic(auto, unfolding(crate::specs::Pictures::head_text))]
-fn write_head(text: &mut String) -> Result<(), AllocError>
-    ensures { OnOk result (GrownBy text.old text.new head_text) }
+#[tactic(auto, unfolding(crate::specs::Pictures::sized_head_text))]
+fn write_head(text: &mut String, size: usize) -> Result<(), AllocError>
+    ensures { OnOk result (GrownBy text.old text.new (sized_head_text size)) }
 {
-    let size = 2 * RADIUS + 2 * MARGIN;
     writeln!(
         text,
         "<svg xmlns=\"http://www.w3.org/2000/svg\" font-family=\"sans-serif\" font-size=\"12\" viewBox=\"0 0 {size} {size}\">"
@@ -220,7 +244,7 @@ fn write_head(text: &mut String) -> Result<(), AllocError>
 pub fn write_picture(text: &mut String, laid: &Laid) -> Result<(), AllocError>
     ensures { OnOk result (GrownByA (PictureText laid.now) text.old text.new) }
 {
-    write_head(text)?;
+    write_head(text, 2 * RADIUS + 2 * MARGIN)?;
     write_seams(text, laid)?;
     write_sides(text, laid)?;
     write_terminals(text, laid.terminals)?;

@@ -1,7 +1,7 @@
 // The whole text of commands, and what is told of each plan in it.
 ghost use Rattle.std.specs.Prelude.{◌≡◌, [], IfOk, OnOk, Some, string_bytes, vec_len};
 ghost use Rattle.plan_text.specs.Texts.{GrownBy, GrownByA};
-ghost use Rattle.plan_text.specs.Reports.{ViewText, PlanTold, ShapeLinks, title_text, EndTold, ShapeTold, LinkRead, ReadingEnds, LineTold, Told, complaint, nothing_read};
+ghost use Rattle.plan_text.specs.Reports.{ViewText, PlanTold, ShapeLinks, title, title_text, EndTold, ShapeTold, LinkRead, ReadingEnds, LineTold, Told, complaint, nothing_read};
 ghost use Rattle.plan_text.specs.Readers.{reading_of};
 
 use crate::commands::{Command, UnknownCommand};
@@ -71,19 +71,22 @@ fn shape_links(heap: Global, shape: Shape, n: usize) -> Result<Vec<Link>, AllocE
     }
 }
 
+// Writes how many terminals and links a plan has.
+fn write_sizes(text: &mut String, n: usize, links: usize) -> Result<(), AllocError>
+    ensures { OnOk result (GrownBy text.old text.new (title n links)) }
+{
+    writeln!(text, "plan, terminals: {n}, links: {links}")
+}
+
 // Writes the line before what is told of a plan; before a picture there is none.
 fn write_title(text: &mut String, plan: &Plan, view: View) -> Result<(), AllocError>
     ensures { OnOk result (GrownBy text.old text.new (title_text view plan.now.terminals (vec_len plan.now.links))) }
 {
-    if let View::Picture = view {
-        return Ok(());
+    match view {
+        View::Picture => Ok(()),
+        View::Summary => write_sizes(text, plan.terminals, plan.links.len()),
+        View::Tree => write_sizes(text, plan.terminals, plan.links.len()),
     }
-    writeln!(
-        text,
-        "plan, terminals: {}, links: {}",
-        plan.terminals,
-        plan.links.len()
-    )
 }
 
 // Tells of a plan with its title.
@@ -150,10 +153,11 @@ impl Reader {
         ensures told { OnOk result (GrownByA (LinkRead number line.now link (reading_of self.old) (reading_of self.new)) self.old.text self.new.text) }
         ensures view { self.new.view ≡ self.old.view }
     {
-        let Some(plan) = &mut self.plan else {
-            return self.complain(number, line, " stands in no plan: ");
-        };
-        plan.links.push(link)?;
+        if let Some(plan) = &mut self.plan {
+            plan.links.push(link)?;
+        } else {
+            self.complain(number, line, " stands in no plan: ")?;
+        }
         Ok(())
     }
 

@@ -1,12 +1,11 @@
 // The division as a tree, one line for a piece, and the one-line summary.
 ghost use Rattle.std.specs.Prelude.{OnOk};
-ghost use Rattle.records.specs.Few.{listed};
 ghost use Rattle.plan_text.specs.Texts.{GrownBy, GrownByA};
-ghost use Rattle.plan_text.specs.Trees.{content_text, edges_text, ends_text, fault_text, indent, link_ends_text, link_text, piece_text, SummaryText, tree_text};
+ghost use Rattle.plan_text.specs.Trees.{content_text, cut_text, edges_text, ends_text, fault_text, indent, link_ends_text, link_text, piece_text, single_text, spaced, summary_text, SummaryText, tree_text};
 
 use crate::laid::{Laid, deepest, most_holders};
 use cutting::{high_end, low_end, triangles};
-use records::{Few, Piece};
+use records::Piece;
 use ring::{Link, PlanFault, Side};
 use std::alloc::AllocError;
 
@@ -17,33 +16,54 @@ fn write_ends(text: &mut String, sides: &[Side], i: u16) -> Result<(), AllocErro
     write!(text, "{}-{}", low_end(sides, i), high_end(sides, i))
 }
 
-// Writes the edge terminals, if there are any.
-fn write_edges(text: &mut String, edges: Few) -> Result<(), AllocError>
-    ensures { OnOk result (GrownBy text.old text.new (edges_text (listed edges))) }
+// Writes terminals, each behind a blank.
+fn write_spaced(text: &mut String, terminals: &[u16]) -> Result<(), AllocError>
+    ensures { OnOk result (GrownBy text.old text.new (spaced terminals.now)) }
 {
-    if edges.len() == 0 {
+    for terminal in terminals {
+        write!(text, " {terminal}")?;
+    }
+    Ok(())
+}
+
+// Writes the edge terminals, if there are any.
+fn write_edges(text: &mut String, edges: &[u16]) -> Result<(), AllocError>
+    ensures { OnOk result (GrownBy text.old text.new (edges_text edges.now)) }
+{
+    if edges.is_empty() {
         return Ok(());
     }
     write!(text, ", edge terminals")?;
-    for k in 0..edges.len() {
-        write!(text, " {}", edges.get(k))?;
-    }
-    Ok(())
+    write_spaced(text, edges)
+}
+
+// Writes the three terminals of the triangle on the side i.
+fn write_triangle(text: &mut String, sides: &[Side], i: u16) -> Result<(), AllocError>
+    ensures { OnOk result (GrownBy text.old text.new (single_text sides.now i)) }
+{
+    let low = low_end(sides, i);
+    let between = high_end(sides, i.saturating_add(1));
+    let high = high_end(sides, i);
+    write!(text, "triangle {low} {between} {high}")
+}
+
+// Writes how many triangles a piece has, and its seam.
+fn write_cut(text: &mut String, sides: &[Side], piece: Piece) -> Result<(), AllocError>
+    ensures { OnOk result (GrownBy text.old text.new (cut_text sides.now piece)) }
+{
+    let count = triangles(sides, piece.holes, piece.top);
+    write!(text, "{count} triangles, seam ")?;
+    write_ends(text, sides, piece.seam)
 }
 
 // What a piece is: its triangles and its seam, or its one triangle's terminals.
 fn write_content(text: &mut String, sides: &[Side], piece: Piece) -> Result<(), AllocError>
     ensures { OnOk result (GrownBy text.old text.new (content_text sides.now piece)) }
 {
-    if piece.first == 0 {
-        let low = low_end(sides, piece.top);
-        let between = high_end(sides, piece.top.saturating_add(1));
-        let high = high_end(sides, piece.top);
-        write!(text, "triangle {low} {between} {high}")
+    if piece.is_single() {
+        write_triangle(text, sides, piece.top)
     } else {
-        let count = triangles(sides, piece.holes, piece.top);
-        write!(text, "{count} triangles, seam ")?;
-        write_ends(text, sides, piece.seam)
+        write_cut(text, sides, piece)
     }
 }
 
@@ -70,21 +90,31 @@ fn write_piece(
     write_indent(text, piece.level)?;
     write!(text, "piece {number}, level {}: ", piece.level)?;
     write_content(text, sides, piece)?;
-    write_edges(text, piece.edges)?;
+    write_edges(text, piece.edges.as_slice())?;
     writeln!(text)
+}
+
+// Writes the line of these counts.
+fn write_counts(
+    text: &mut String,
+    pieces: usize,
+    level: u8,
+    holders: usize,
+) -> Result<(), AllocError>
+    ensures { OnOk result (GrownBy text.old text.new (summary_text pieces level holders)) }
+{
+    writeln!(
+        text,
+        "pieces: {pieces}, deepest level: {level}, most pieces that hold one lane: {holders}"
+    )
 }
 
 // Writes the counts of a division.
 pub fn write_summary(text: &mut String, laid: &Laid) -> Result<(), AllocError>
     ensures { OnOk result (GrownByA (SummaryText laid.now) text.old text.new) }
 {
-    let pieces = laid.pieces.len();
-    let level = deepest(&laid.pieces);
     let holders = most_holders(&laid.sides, &laid.pieces);
-    writeln!(
-        text,
-        "pieces: {pieces}, deepest level: {level}, most pieces that hold one lane: {holders}"
-    )
+    write_counts(text, laid.pieces.len(), deepest(&laid.pieces), holders)
 }
 
 // Writes the whole tree: the records stand in the order of the tree, a piece before its parts.
