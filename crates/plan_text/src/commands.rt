@@ -10,7 +10,7 @@ use std::str::FromStr;
 use words::{FewWords, number_of, up_to_four};
 
 // What a line asks for.
-#[derive(Clone, Copy)]
+#[derive(Clone, Copy, Debug, PartialEq, Eq)]
 pub enum Command {
     // Nothing: the line is blank.
     Blank,
@@ -23,14 +23,15 @@ pub enum Command {
 }
 
 // The line's words name no command.
-#[derive(Clone, Copy)]
+#[derive(Clone, Copy, Debug, PartialEq, Eq)]
 pub struct UnknownCommand;
 
 // A terminal; every number past 65,535 is read as 65,535, which is no terminal of any plan.
 fn read_terminal(word: &str) -> Option<u16>
     ensures { MatchOption result (NoNumeral word.now) (TerminalOf word.now) }
 {
-    Some(number_of(word)?.min(65535) as u16)
+    let number = number_of(word)?;
+    Some(u16::try_from(number).unwrap_or(u16::MAX))
 }
 
 // The command that the words of a line name, if they name one.

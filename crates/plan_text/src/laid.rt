@@ -39,7 +39,7 @@ pub struct Laid {
 }
 
 // Why a plan is not laid out.
-#[derive(Clone, Copy)]
+#[derive(Clone, Copy, Debug, PartialEq, Eq)]
 pub enum LayError {
     Refused(PlanFault),
     OutOfMemory,

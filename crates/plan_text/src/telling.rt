@@ -13,7 +13,7 @@ use shapes::{Shape, draw_shape};
 use std::alloc::{AllocError, Global};
 
 // What is told of a plan that is accepted.
-#[derive(Clone, Copy)]
+#[derive(Clone, Copy, Debug, PartialEq, Eq)]
 pub enum View {
     Summary,
     Tree,
@@ -84,8 +84,7 @@ fn write_title(text: &mut String, plan: &Plan, view: View) -> Result<(), AllocEr
 {
     match view {
         View::Picture => Ok(()),
-        View::Summary => write_sizes(text, plan.terminals, plan.links.len()),
-        View::Tree => write_sizes(text, plan.terminals, plan.links.len()),
+        View::Summary | View::Tree => write_sizes(text, plan.terminals, plan.links.len()),
     }
 }
 
