@@ -10,14 +10,15 @@ use Rattle.trips.specs.Trips.{LaneMap, Trip, lanes, Earning, NoEarning, BestRate
 use Rattle.trips.specs.Trips.Trip.{stay, go}
 use Rattle.trips.proofs.Walks.{no_earning_fewer}
 use Rattle.slow.specs.Areas.{Few, InArea, PairRefused, at, entry, lane_map, LaneOrNone, LaneArea, Settled, AreasRefused, Tested, LaneSet}
+use Rattle.slow.specs.declared.best.Ends.{Ends}
 use Rattle.slow.specs.declared.refusal.Refusal.{Refusal}
 use Rattle.slow.specs.declared.refusal.Refusal.TheVariants.{NoTerminals, TooManyTerminals, WrongLength, NoRate, NoTerminal, NoLaneRate}
 use Rattle.slow_quotes.specs.declared.order.Order.{Order}
 use Rattle.slow_quotes.specs.declared.order.Order.TheVariants.{Terminals, Lane, Shut, Quote}
-use Rattle.slow_quotes.specs.declared.quotes.Quotation.{Quotation}
-use Rattle.slow_quotes.specs.declared.quotes.Fault.{Fault}
-use Rattle.slow_quotes.specs.declared.quotes.Fault.TheVariants.{Refused}
-use Rattle.slow_quotes.specs.Networks.{Posted, TakenAway, Network, PairFault, CountFault, LaneChanged, LaneFault, Answered, without_quotation, WithoutLanes, shown, Filled, InOrder, EmptyArea}
+use Rattle.slow_quotes.specs.declared.held.Quotation.{Quotation}
+use Rattle.slow_quotes.specs.declared.fault.Fault.{Fault}
+use Rattle.slow_quotes.specs.declared.fault.Fault.TheVariants.{Refused}
+use Rattle.slow_quotes.specs.Networks.{Posted, TakenAway, Network, PairFault, CountFault, LaneChanged, LaneFault, Answered, without_quotation, WithoutLanes, shown, network_of, LookedFor, Filled, InOrder, EmptyArea}
 
 -- a list that is written back into a vector of its length
 pub written_back : {A : Type 0} (n : ℕ) (new rest : List A) → length new ≡ n → take n (new ++ rest) ≡ new
@@ -170,32 +171,16 @@ module _ {M : Type 0} (K : Kind M) where
           let d = t (map means lanes) f.shows f.none_earns f.best in
           (d.0, λ z e. both_ways earns z (d.1 e))
 
+  module _ {V : Type 0} (means : V → M) where
     -- what the order on a lane is answered with
-    pub lane_answered : (lanes lanes' : List V) (from to : ℕ) (rate : V) (r : Result (Unit {0}) Fault) → Posted K means n lanes lanes' from to rate r → Answered K means (shown K n (map means lanes)) (Lane from to rate) (shown K n (map means lanes')) (without_quotation r)
-    lane_answered lanes lanes' from to rate (Ok done) h = h
-    lane_answered lanes lanes' from to rate (Err fault) h = (h.0, ap (λ list. shown K n (map means list)) h.1)
+    pub lane_answered : (before after : ℕ × List V) (ends : Ends) (rate : V) (r : Result (Unit {0}) Fault) → Posted K means before after ends rate r → Answered K means (network_of K means before) (Lane ends rate) (network_of K means after) (without_quotation r)
+    lane_answered before after ends rate (Ok done) h = h
+    lane_answered before after ends rate (Err fault) h = (h.0, ap (network_of K means) h.1)
 
-    pub shut_answered : (lanes lanes' : List V) (from to : ℕ) (r : Result (Unit {0}) Fault) → TakenAway K means n lanes lanes' from to r → Answered K means (shown K n (map means lanes)) (Shut from to) (shown K n (map means lanes')) (without_quotation r)
-    shut_answered lanes lanes' from to (Ok done) h = h
-    shut_answered lanes lanes' from to (Err fault) h = (h.0, ap (λ list. shown K n (map means list)) h.1)
+    pub shut_answered : (before after : ℕ × List V) (ends : Ends) (r : Result (Unit {0}) Fault) → TakenAway K means before after ends r → Answered K means (network_of K means before) (Shut ends) (network_of K means after) (without_quotation r)
+    shut_answered before after ends (Ok done) h = h
+    shut_answered before after ends (Err fault) h = (h.0, ap (network_of K means) h.1)
 
-    pub terminals_answered : (before : Network M) (area : List M) → EmptyArea K n area → (r : Result (Unit {0}) Fault) → MatchResult r (λ _. Few n) (CountFault n) → Answered K means before (Terminals n) (shown K n area) (without_quotation r)
-    terminals_answered before area e (Ok done) h = (h, without_lanes n area e)
-    terminals_answered before area e (Err fault) h = (h, without_lanes n area e)
-
-    pub quote_answered : (lanes table : List V) (from to : ℕ) (rate : V) → InOrder K n (map means lanes) (map means table) → InArea n (length table) from to → means rate ≡ entry K n (map means table) from to → Answered K means (shown K n (map means lanes)) (Quote from to) (shown K n (map means lanes)) (Ok (Some (record { from = from; to = to; rate = rate })))
-    quote_answered lanes table from to rate h i e = (
-      pair_within n (length table) from to i,
-      refl,
-      refl,
-      subst (BestRate K (lane_map K n (map means lanes)) from to) (sym e) ((filled_from h i.few).best from to i.from_below i.to_below),
-      refl,
-    )
-
-    -- the same, by other names
-    pub answered_as : (before before' : Network M) (order order' : Order V) (after after' : Network M) (r r' : Result (Option (Quotation V)) Fault) → before ≡ before' → order ≡ order' → after ≡ after' → r ≡ r' → Answered K means before' order' after' r' → Answered K means before order after r
-    answered_as before before' order order' after after' r r' b p q e h =
-        subst (λ z. Answered K means z order after r) (sym b)
-        (subst (λ o. Answered K means before' o after r) (sym p)
-        (subst (λ a. Answered K means before' order' a r) (sym q)
-        (subst (λ x. Answered K means before' order' after' x) (sym e) h)))
+    pub terminals_answered : (before after : Network M) (n : ℕ) (r : Result (Unit {0}) Fault) → WithoutLanes K n after → MatchResult r (λ _. Few n) (CountFault n) → Answered K means before (Terminals n) after (without_quotation r)
+    terminals_answered before after n (Ok done) e h = (h, e)
+    terminals_answered before after n (Err fault) e h = (h, e)
