@@ -17,11 +17,6 @@ pub record Network (M : Type 0) : Type 0 where
   pub terminals : ℕ
   pub lanes : LaneMap M
 
--- the answer to an order that asks for no rate
-abbrev pub without_quotation : {V : Type 0} → Result (Unit {0}) Fault → Result (Option (Quotation V)) Fault
-without_quotation (Ok done) = Ok None
-without_quotation (Err fault) = Err fault
-
 -- two terminals of a network of few terminals
 abbrev pub Within : {M : Type 0} → Network M → ℕ → ℕ → Type 0
 Within net from to = InArea net.terminals (net.terminals * net.terminals) from to

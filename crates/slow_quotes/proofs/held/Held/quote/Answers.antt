@@ -1,4 +1,4 @@
-use Rattle.std.proofs.Common.{◌≡◌, map, length, refl, ◌∙◌, ap, sym, subst}
+use Rattle.std.proofs.Common.{◌≡◌, map, length, refl, sym, subst}
 use Rattle.trips.specs.Trips.{BestRate}
 use Rattle.slow.specs.Areas.{InArea, entry, lane_map}
 use Rattle.slow_quotes.specs.Networks.{Within, network_of}
