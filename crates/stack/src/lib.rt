@@ -4,6 +4,9 @@
 ghost use Rattle.std.specs.Prelude.{◌≡◌, ◌≤◌, length};
 ghost use Rattle.stack.specs.Moves.{Popped, Pushed};
 
+use std::error::Error;
+use std::fmt;
+
 // The first `len` places of `items` are in use; the last of them is on top.
 #[derive(Drop)]
 pub struct Stack<'a, E> {
@@ -13,8 +16,20 @@ pub struct Stack<'a, E> {
 }
 
 // There was no room for one more.
-#[derive(Clone, Copy)]
+#[derive(Clone, Copy, Debug, PartialEq, Eq)]
 pub struct Full;
+
+impl fmt::Display for Full {
+    ghost use Rattle.std.specs.Prelude.{Some, codes};
+
+    ghost output = { λ _. Some (codes "the stack is full") };
+
+    fn fmt<W: fmt::Write>(&self, f: &mut fmt::Formatter<W>) -> fmt::Result {
+        f.write_str("the stack is full")
+    }
+}
+
+impl Error for Full {}
 
 impl<'a, E: Copy> Stack<'a, E> {
     // An empty stack over the whole of `items`.
