@@ -1,7 +1,7 @@
 -- Sides with the same ends and links are divided into the same records.
 -- Assumes two divisions.
-use Rattle.std.proofs.Common.{◌≡◌, ℕ, ◌+◌, ◌-◌, ◌*◌, ◌<◌, List, length, get_or, take, sym, ap, ◌∙◌, subst, arith}
-use Rattle.std.proofs.lemmas.List.{get_or-take, get_or-map, length-take-le, take-map, ext_get_or}
+use Rattle.std.proofs.Common.{◌≡◌, ℕ, ◌+◌, ◌-◌, ◌*◌, ◌<◌, length, get_or, take, sym, ap, ◌∙◌, subst, arith}
+use Rattle.std.proofs.lemmas.List.{get_or-take, get_or-map, length-take-le, ext_get_or}
 use Rattle.ring.specs.declared.Side.{Side}
 use Rattle.records.specs.declared.Piece.{Piece}
 use Rattle.pieces.specs.Sides.{Ends, span, no_side}
@@ -9,16 +9,13 @@ use Rattle.pieces.specs.Cuts.{whole}
 use Rattle.pieces.specs.Marks.{SameSides, bare, with_leaf}
 use Rattle.pieces.specs.Holding.{piece_at, Holds}
 use Rattle.pieces.specs.Division.{LeafMarked, Uncut}
-use Rattle.pieces.proofs.Marking.{same_ends, same_count}
+use Rattle.pieces.proofs.Marking.{same_ends, same_front, same_count}
 use Rattle.pieces.proofs.Standing.{records_once}
 use Rattle.pieces.proofs.Leaves.{leaf_once}
 use Rattle.division.specs.Outcome.{front_ends, Divided, SameSidesSameRecords}
 
 side_from : (s t : Side) → bare s ≡ bare t → s.leaf ≡ t.leaf → s ≡ t
 side_from s t b l = ap (λ (x : Side). with_leaf x s.leaf) b ∙ ap (with_leaf (bare t)) l
-
-front_same : (m : ℕ) (ss ss' : List Side) → SameSides ss ss' → SameSides (take m ss) (take m ss')
-front_same m ss ss' same = sym (take-map bare m ss') ∙ ap (take m) same ∙ take-map bare m ss
 
 pub same_records : SameSidesSameRecords
 same_records n ss tt ss' tt' ps qs fl long same sk tk a b =
@@ -40,7 +37,7 @@ same_records n ss tt ss' tt' ps qs fl long same sk tk a b =
     pieces = records_once a.records b'.records
 
     fronts : SameSides (take (2 * n - 3) ss') (take (2 * n - 3) tt')
-    fronts = front_same (2 * n - 3) tt tt' tk ∙ same ∙ sym (front_same (2 * n - 3) ss ss' sk)
+    fronts = same_front (2 * n - 3) tt tt' tk ∙ same ∙ sym (same_front (2 * n - 3) ss ss' sk)
 
     ls : length (take (2 * n - 3) ss') ≡ 2 * n - 3
     ls = length-take-le (2 * n - 3) ss' (omega (arith, same_count ss ss' sk))

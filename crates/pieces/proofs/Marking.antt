@@ -1,9 +1,10 @@
 -- What marking changes: the leaves of the sides that belong to the triangle, and nothing else.
 -- Assumes that the lengths are those of a filled ring in preorder where children are spoken of.
-use Rattle.std.proofs.Common.{◌≡◌, ℕ, zero, suc, ◌+◌, ◌*◌, ◌<◌, ◌≤◌, eqb, ◌≢◌, List, map, length, get_or, set, sym, refl, ap, ◌∙◌, subst, inl, inr, ⊎_elim, arith}
+use Rattle.std.proofs.Common.{◌≡◌, ℕ, zero, suc, ◌+◌, ◌*◌, ◌<◌, ◌≤◌, eqb, ◌≢◌, List, map, length, get_or, take, set, sym, refl, ap, ◌∙◌, subst, inl, inr, ⊎_elim, arith}
 use mathlib.Core.Path.{fun_ext}
-use Rattle.std.proofs.lemmas.List.{map-set, set-get_or, get_or-map, get_or_past, get_or-set_same, get_or-set_other, length-map}
-use Rattle.std.proofs.lemmas.Bool.{cases_lt, cases_eq, cases_Bool, cond-true, cond-false, cond_both, eqb-true, eq-eqb}
+use Rattle.std.proofs.lemmas.List.{map-set, set-get_or, get_or-set_same, get_or-set_other, length-map, take-map}
+use Rattle.std.proofs.Math.ListN.{get_or-map}
+use Rattle.std.proofs.lemmas.Bool.{cases_eq, cases_Bool, cond-true, cond-false, cond_both, eqb-true, eq-eqb}
 use Rattle.ring.specs.declared.Side.{Side}
 use Rattle.records.specs.declared.Piece.{Piece}
 use Rattle.pieces.specs.Sides.{Ends, ends_of, lengths, no_side, Preorder, Child, Belongs, right_of}
@@ -16,25 +17,23 @@ use Rattle.pieces.proofs.Descent.{left_is, right_is}
 abbrev leaf_at : List Side → ℕ → ℕ
 leaf_at ss i = (get_or ss i no_side).leaf
 
--- the ends are read off the sides without their leaves
-bare_side : (ss : List Side) (i : ℕ) → bare (get_or ss i no_side) ≡ get_or (map bare ss) i no_side
-bare_side ss i =
-    ⊎_elim (λ l. sym (get_or-map bare ss i no_side no_side l))
-    (λ l. ap bare (get_or_past ss i no_side l) ∙ sym (get_or_past (map bare ss) i no_side (omega (arith, length-map ss bare))))
-    (cases_lt i (length ss))
+-- the same sides at every place, and among the first m
+pub same_at : (ss ss' : List Side) → SameSides ss ss' → (k : ℕ) → bare (get_or ss' k no_side) ≡ bare (get_or ss k no_side)
+same_at ss ss' same k = sym (get_or-map bare ss' k no_side) ∙ ap (λ xs. get_or xs k no_side) same ∙ get_or-map bare ss k no_side
 
+pub same_front : (m : ℕ) (ss ss' : List Side) → SameSides ss ss' → SameSides (take m ss) (take m ss')
+same_front m ss ss' same = sym (take-map bare m ss') ∙ ap (take m) same ∙ take-map bare m ss
+
+-- the ends are read off the sides without their leaves
 pub same_ends : (ss ss' : List Side) → SameSides ss ss' → ends_of ss' ≡ ends_of ss
 same_ends ss ss' same =
     λ i. record { low = lows i; high = highs i }
   where
-    side : (k : ℕ) → bare (get_or ss' k no_side) ≡ bare (get_or ss k no_side)
-    side k = bare_side ss' k ∙ ap (λ xs. get_or xs k no_side) same ∙ sym (bare_side ss k)
-
     lows : (ends_of ss').low ≡ (ends_of ss).low
-    lows = fun_ext (λ k. ap (λ (s : Side). s.low) (side k))
+    lows = fun_ext (λ k. ap (λ (s : Side). s.low) (same_at ss ss' same k))
 
     highs : (ends_of ss').high ≡ (ends_of ss).high
-    highs = fun_ext (λ k. ap (λ (s : Side). s.high) (side k))
+    highs = fun_ext (λ k. ap (λ (s : Side). s.high) (same_at ss ss' same k))
 
 pub same_lengths : (ss ss' : List Side) → SameSides ss ss' → lengths ss' ≡ lengths ss
 same_lengths ss ss' same = ap (λ (e : Ends). Rattle.pieces.specs.Sides.span e) (same_ends ss ss' same)
@@ -45,7 +44,7 @@ same_count ss ss' same = sym (length-map ss' bare) ∙ ap length same ∙ length
 one_same : (ss : List Side) (i q : ℕ) → SameSides ss (mark_one ss i q)
 one_same ss i q =
     map-set bare ss i (with_leaf (get_or ss i no_side) q)
-    ∙ ap (set (map bare ss) i) (bare_side ss i)
+    ∙ ap (set (map bare ss) i) (sym (get_or-map bare ss i no_side))
     ∙ set-get_or (map bare ss) i no_side
 
 unit_same : (ss : List Side) (i q : ℕ) → SameSides ss (mark_unit ss i q)

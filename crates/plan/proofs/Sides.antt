@@ -1,7 +1,7 @@
 -- Sides that are the same but for their leaves: what is read from them is the same.
 -- Assumes nothing.
-use Rattle.std.proofs.Common.{◌≡◌, ℕ, zero, suc, ◌+◌, ◌-◌, ◌*◌, ◌<◌, ◌≤◌, List, [], ◌∷◌, map, length, get_or, take, drop, Ok, Err, Result, Decides, sym, refl, ap, ◌∙◌, subst, ⊎_elim, arith}
-use Rattle.std.proofs.lemmas.List.{take-map, drop-map}
+use Rattle.std.proofs.Common.{◌≡◌, ℕ, ◌+◌, ◌-◌, ◌*◌, ◌<◌, ◌≤◌, List, [], ◌∷◌, map, length, take, drop, Ok, Err, Result, Decides, sym, refl, ap, ◌∙◌, subst, ⊎_elim, arith}
+use Rattle.std.proofs.lemmas.List.{take-map, drop-map, take_all, length-take}
 use Rattle.trips.specs.Links.{Ends, SameLink}
 use Rattle.triangulation.specs.Trees.{preorder, side_count}
 use Rattle.ring.specs.declared.Link.{Link}
@@ -11,8 +11,8 @@ use Rattle.ring.specs.Linked.{Linked, ends_at}
 use Rattle.ring.proofs.InArea.{area_by_place, area_long}
 use Rattle.records.specs.declared.Piece.{Piece}
 use Rattle.pieces.specs.Marks.{SameSides, bare}
-use Rattle.pieces.specs.Sides.{Filled, ends_of, no_side}
-use Rattle.pieces.proofs.Marking.{same_ends}
+use Rattle.pieces.specs.Sides.{Filled, ends_of}
+use Rattle.pieces.proofs.Marking.{same_at, same_ends, same_front}
 use Rattle.division.specs.declared.Undivided.{Undivided}
 use Rattle.division.specs.declared.Undivided.TheVariants.{Terminals, Short, NotFilled}
 use Rattle.division.specs.Outcome.{Divided, Kept, Outcome, front_ends}
@@ -37,31 +37,15 @@ filled n sides h m T =
 -- The first records alone are triangulated too.
 front_triangulated : (n : ℕ) (sides : List Side) → Triangulated n sides → Triangulated n (take (side_count n) sides)
 front_triangulated n sides T =
-    record { tree = T.tree; spans = T.spans; ends = ap (map side_ends) (take_twice (side_count n) sides) ∙ T.ends }
-  where
-    take_twice : (k : ℕ) (xs : List Side) → take k (take k xs) ≡ take k xs
-    take_twice zero xs = refl
-    take_twice (suc k) [] = refl
-    take_twice (suc k) (x ∷ xs) = ap (λ l. x ∷ l) (take_twice k xs)
+    let front = length-take (side_count n) sides in
+    record { tree = T.tree; spans = T.spans; ends = ap (map side_ends) (take_all (side_count n) (take (side_count n) sides) (omega arith)) ∙ T.ends }
 
 pub front_filled : (n : ℕ) (sides : List Side) → 3 ≤ n → n ≤ 4096 → Triangulated n sides → Filled n (front_ends n sides)
 front_filled n sides h m T = filled n (take (side_count n) sides) h m (front_triangulated n sides T)
 
-bare_get_d : (ss : List Side) (k : ℕ) → get_or (map bare ss) k no_side ≡ bare (get_or ss k no_side)
-bare_get_d [] k = refl
-bare_get_d (s ∷ ss) zero = refl
-bare_get_d (s ∷ ss) (suc k) = bare_get_d ss k
-
 bare_ends : (ss : List Side) → map side_ends (map bare ss) ≡ map side_ends ss
 bare_ends [] = refl
 bare_ends (s ∷ ss) = ap (λ l. side_ends s ∷ l) (bare_ends ss)
-
--- The same sides at every place.
-pub same_at : (ss ss' : List Side) → SameSides ss ss' → (k : ℕ) → bare (get_or ss' k no_side) ≡ bare (get_or ss k no_side)
-same_at ss ss' same k = sym (bare_get_d ss' k) ∙ (ap (λ l. get_or l k no_side) same ∙ bare_get_d ss k)
-
-pub same_front : (m : ℕ) (ss ss' : List Side) → SameSides ss ss' → SameSides (take m ss) (take m ss')
-same_front m ss ss' same = sym (take-map bare m ss') ∙ (ap (take m) same ∙ take-map bare m ss)
 
 pub same_triangulated : (n : ℕ) (ss ss' : List Side) → SameSides ss ss' → Triangulated n ss → Triangulated n ss'
 same_triangulated n ss ss' same T =
