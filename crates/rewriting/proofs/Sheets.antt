@@ -19,7 +19,7 @@ use Rattle.sheets.specs.declared.parent.Cut.{Cut}
 
 -- the part of all sheets that is lent as the sheet of the piece f
 abbrev pub lent : {X : Type 0} → ℕ → List X → List X
-lent f xs = take (64 * f + 64 - 64 * f) (drop (64 * f) xs)
+lent f xs = take 64 (drop (64 * f) xs)
 
 -- a piece with its parts and the ends of its seam
 abbrev pub cut_at : List Side → List Piece → Piece → Cut
@@ -27,15 +27,16 @@ cut_at sides ps P = record { piece = P; first = piece_at ps P.first; second = pi
 
 module _ {M : Type 0} (K : Kind M) {V : Type 0} (means : V → M) where
   lent_is : (f : ℕ) (xs : List V) → map means (lent f xs) ≡ sheet_of K (map means xs) f
-  lent_is f xs =
-      let k : 64 * f + 64 - 64 * f ≡ 64 = omega arith in
-      ap (λ v. map means (take v (drop (64 * f) xs))) k ∙ sym (sheet_mapped K means xs f)
+  lent_is f xs = sym (sheet_mapped K means xs f)
 
   module _ (n : ℕ) (m : LaneMap M) (sides : List Side) (ps : List Piece) (area : List M) (sheets : List V) (h : PlanStands K n m sides ps area (map means sheets)) (p : ℕ) (r : p + 5 < 2 * n) where
-    abbrev Written : Cut → Piece → List M → Type 0
-    Written cut P sheet =
-        PartsShown K n (ends_of sides) m cut.piece cut.first cut.second cut.low cut.high (map means (lent P.first sheets)) (map means (lent P.second sheets))
+    abbrev WrittenFrom : Cut → List V → List V → List M → Type 0
+    WrittenFrom cut a b sheet =
+        PartsShown K n (ends_of sides) m cut.piece cut.first cut.second cut.low cut.high (map means a) (map means b)
         → SheetShows K n (ends_of sides) cut.piece m sheet
+
+    abbrev Written : Cut → Piece → List M → Type 0
+    Written cut P sheet = WrittenFrom cut (lent P.first sheets) (lent P.second sheets) sheet
 
     -- what the writing of a parent's sheet promises of its cut is what the plan asks of the piece
     at_piece : (sheet : List M) → PartsRight K n (ends_of sides) ps m (map means sheets) p → ((piece_at ps p).first ≡ 0 → ⊥) → Written (cut_at sides ps (piece_at ps p)) (piece_at ps p) sheet → SheetShows K n (ends_of sides) (piece_at ps p) m sheet
@@ -45,10 +46,15 @@ module _ {M : Type 0} (K : Kind M) {V : Type 0} (means : V → M) where
         w (subst (λ v. Q v (map means (lent P.second sheets))) (sym (lent_is P.first sheets))
         (subst (Q (sheet_of K (map means sheets) P.first)) (sym (lent_is P.second sheets)) (parts_shown K n m sides ps area (map means sheets) h p r z right)))
 
-    pub parent_shown : (sheet : List M) (P : Piece) (cut : Cut) → PartsRight K n (ends_of sides) ps m (map means sheets) p → P ≡ piece_at ps p → cut ≡ cut_at sides ps P → (P.first ≡ 0 → ⊥) → Written cut P sheet → SheetShows K n (ends_of sides) (piece_at ps p) m sheet
-    parent_shown sheet P cut right s t =
+    cut_shown : (sheet : List M) (P : Piece) (cut : Cut) → PartsRight K n (ends_of sides) ps m (map means sheets) p → P ≡ piece_at ps p → cut ≡ cut_at sides ps P → (P.first ≡ 0 → ⊥) → Written cut P sheet → SheetShows K n (ends_of sides) (piece_at ps p) m sheet
+    cut_shown sheet P cut right s t =
         subst (λ (c : Cut). (P.first ≡ 0 → ⊥) → Written c P sheet → SheetShows K n (ends_of sides) (piece_at ps p) m sheet) (sym t)
         (subst (λ (Q : Piece). (Q.first ≡ 0 → ⊥) → Written (cut_at sides ps Q) Q sheet → SheetShows K n (ends_of sides) (piece_at ps p) m sheet) (sym s) (at_piece sheet right))
+
+    pub parent_shown : (sheet : List M) (P : Piece) (cut : Cut) (a b : List V) → a ≡ lent P.first sheets → b ≡ lent P.second sheets → PartsRight K n (ends_of sides) ps m (map means sheets) p → P ≡ piece_at ps p → cut ≡ cut_at sides ps P → (P.first ≡ 0 → ⊥) → WrittenFrom cut a b sheet → SheetShows K n (ends_of sides) (piece_at ps p) m sheet
+    parent_shown sheet P cut a b from to right s t z w =
+        cut_shown sheet P cut right s t z
+        (subst (λ v. WrittenFrom cut v (lent P.second sheets) sheet) from (subst (λ v. WrittenFrom cut a v sheet) to w))
 
     -- a sheet shows what the work area showed that it was copied from
     pub copied_shows : (work after : List V) → take 64 (drop (64 * p) after) ≡ take 64 work → SheetShows K n (ends_of sides) (piece_at ps p) m (map means work) → PieceShown K n (ends_of sides) ps m (map means after) p

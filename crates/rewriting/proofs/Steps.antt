@@ -1,5 +1,6 @@
 -- Single steps of a rewriting, on plain values: one sheet put in its place, one more piece of the way up.
 -- Assumes nothing.
+use Rattle.std.specs.Prelude.{Result, Ok, Err, IsOkAnd, OnErr}
 use Rattle.std.proofs.Common.{◌≡◌, ℕ, suc, ◌+◌, ◌-◌, ◌*◌, ◌<◌, ◌≤◌, true, false, cond, List, [], ◌∷◌, length, take, drop, sym, refl, ap, ◌∙◌, subst, inl, inr, arith, length-take}
 use borrow.Rule.Slice.PartMut.{put_mid}
 use Rattle.std.proofs.lemmas.Bool.{cond-true, cond-false}
@@ -12,6 +13,15 @@ use Rattle.piece_rates.specs.Changes.{OnlySheet}
 use Rattle.piece_rates.proofs.Changes.{other_sheet}
 use Rattle.piece_rates.proofs.Ways.{parent_lower}
 use Rattle.rewriting.specs.Ways.{WayRewritten, UnderWay}
+
+-- a fact of what a call that succeeded gave, made another; and such a call left no error
+pub ok_and : {T E : Type 0} (r : Result T E) (P Q : T → Type 0) → ((x : T) → P x → Q x) → IsOkAnd r P → IsOkAnd r Q
+ok_and (Ok x) P Q f h = f x h
+ok_and (Err e) P Q f h = h
+
+pub no_err : {T E : Type 0} (r : Result T E) (P : T → Type 0) (Q : Type 0) → IsOkAnd r P → OnErr r Q
+no_err (Ok x) P Q h = tt
+no_err (Err e) P Q h = absurd h
 
 module _ {X : Type 0} (p : ℕ) (sheets sheet work : List X) (room : 64 * p + 64 ≤ length sheets) (wide : 64 ≤ length work) (is : sheet ≡ take 64 work) where
   size : length sheet ≡ 64

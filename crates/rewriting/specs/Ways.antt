@@ -23,10 +23,14 @@ pub record UnderWay {X : Type 0} (ps : List Piece) (p k q : ℕ) (sheets work sh
   pub behind : drop 64 work' ≡ drop 64 work
 
 -- nothing was written
-pub record Untouched {X : Type 0} (sheets work : List X) (r : ℕ) (sheets' work' : List X) : Type 0 where
-  pub none_rewritten : r ≡ 0
+pub record Untouched {X : Type 0} (sheets work sheets' work' : List X) : Type 0 where
   pub sheets_same : sheets' ≡ sheets
   pub work_same : work' ≡ work
+
+-- there is a sheet of the piece p, and a work area
+pub record SheetRoom (sheets work p : ℕ) : Type 0 where
+  pub sheet_there : 64 * p + 64 ≤ sheets
+  pub work_there : 64 ≤ work
 
 -- the leaf piece that the side i names
 abbrev pub leaf_of : List Side → ℕ → ℕ

@@ -1,4 +1,4 @@
-// Lanes and sheets of a plan on which no lane stands.
+// The sheets of a plan on which no lane stands.
 ghost use Rattle.std.specs.Prelude.{◌≡◌, ℕ, ◌+◌, ◌*◌, ◌/◌, ◌<◌, ◌≤◌, min, List, map, length, drop, slice_index_or};
 ghost use Rattle.trips.specs.Trips.{LaneMap};
 ghost use Rattle.records.specs.Few.{listed};
@@ -9,19 +9,7 @@ ghost use Rattle.piece_rates.specs.Changes.{AllShown};
 
 use rates::kind::Rate;
 use records::Piece;
-use sheets::SHEET;
-
-// A sheet has a row of 8 places for each of up to 8 edge terminals.
-const ROW: usize = 8;
-
-// None at each place.
-pub fn clear_lanes<R: Rate>(lanes: &mut [R])
-    ensures { (k : ℕ) → slice_index_or (map R.means lanes.new) k R.kind.none ≡ R.kind.none }
-{
-    for k in 0..lanes.len() {
-        lanes[k] = R::none();
-    }
-}
+use sheets::{ROW, SHEET, write_each};
 
 // The place k of a sheet with so many edge terminals: staying put costs nothing, and no terminal reaches another.
 fn bare_at<R: Rate>(count: usize, k: usize) -> R
@@ -40,9 +28,7 @@ fn write_bare_sheet<R: Rate>(piece: Piece, sheet: &mut [R])
     ensures { (k : ℕ) → k < 64 → slice_index_or (map R.means sheet.new) k R.kind.none ≡ bare_place R.kind (length (listed piece.edges)) k }
 {
     let count = piece.edges.len();
-    for k in 0..SHEET {
-        sheet[k] = bare_at(count, k);
-    }
+    write_each(sheet, |k| bare_at(count, k));
 }
 
 // Writes the sheets of the pieces that there is room for, as they are while no lane stands.
@@ -52,6 +38,7 @@ pub fn write_bare_sheets<R: Rate>(pieces: &[Piece], sheets: &mut [R])
     ensures shown { (n : ℕ) (e : Ends) (m : LaneMap R.Member) → NoLanes R.kind m → Division n e pieces.now → 2 * n ≤ length pieces.now + 5 → 64 * (2 * n) ≤ length sheets.old + 320 → AllShown R.kind n e pieces.now m (map R.means sheets.new) }
 {
     let most = pieces.len().min(sheets.len() / SHEET);
+    // By index: of what is written through `chunks_exact_mut` no proof knows anything.
     for p in 0..most {
         write_bare_sheet(pieces[p], &mut sheets[SHEET * p..SHEET * p + SHEET]);
     }

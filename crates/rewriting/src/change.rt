@@ -1,56 +1,65 @@
 // A lane's rate changed, and the sheets that show it.
-ghost use Rattle.std.specs.Prelude.{◌≡◌, ℕ, ◌+◌, ◌*◌, ◌<◌, ◌≤◌, List, map, length, Decides};
+ghost use Rattle.std.specs.Prelude.{◌≡◌, ℕ, ◌+◌, ◌*◌, ◌<◌, ◌≤◌, ◌↔◌, IsOk, IsErr, IsOkAnd, OnErr, map, length};
 ghost use Rattle.trips.specs.Trips.{LaneMap};
 ghost use Rattle.pieces.specs.Sides.{ends_of};
 ghost use Rattle.piece_rates.specs.Changes.{InOrder, lane_place, LaneChanged, MayChange};
 ghost use Rattle.rewriting.specs.Ways.{leaf_of, LaneRewritten, Room, Untouched};
 
-use crate::up::rewrite_up;
+use crate::up::{NoRoom, check_sheet, rewrite_up};
+use holders::Records;
 use rates::kind::Rate;
-use records::Piece;
-use ring::Side;
-use sheets::{SHEET, side_at};
 
-// The place of the lane along a side, from its low end to its high end or back.
-fn place_of_lane(side: u16, back: bool) -> usize
-    ensures { result ≡ lane_place side back }
-{
-    let up = 2 * side as usize;
-    if back { up + 1 } else { up }
+// The lane along a side, from its low end to its high end or back.
+#[derive(Clone, Copy, Debug, PartialEq, Eq)]
+pub struct Lane {
+    pub side: u16,
+    pub back: bool,
 }
 
-// Whether there is the side, its two lanes, the sheet of its leaf piece, and 64 work rates.
-fn has_room(sides: &[Side], lanes: usize, sheets: usize, work: usize, side: u16, leaf: u16) -> bool
-    requires { leaf ≡ leaf_of sides.now side }
-    ensures { Decides result (Room sides.now lanes sheets work side) }
+impl Lane {
+    // Its place in the lane area.
+    pub fn place(self) -> usize
+        ensures { result ≡ lane_place self.side self.back }
+    {
+        2 * self.side as usize + usize::from(self.back)
+    }
+}
+
+// Refuses where the side of a lane, its two lanes, the sheet of its leaf piece or 64 work rates are missing.
+fn check_lane(
+    records: Records,
+    lanes: usize,
+    sheets: usize,
+    work: usize,
+    side: u16,
+) -> Result<(), NoRoom>
+    ensures { IsOk result ↔ Room records.entry.sides.now lanes sheets work side }
 {
-    let side_there = (side as usize) < sides.len();
+    let side_there = (side as usize) < records.sides.len();
     let lanes_there = 2 * side as usize + 1 < lanes;
-    let sheet_there = SHEET * leaf as usize + SHEET <= sheets;
-    side_there & lanes_there & sheet_there & (SHEET <= work)
+    if !(side_there & lanes_there) {
+        return Err(NoRoom);
+    }
+    check_sheet(sheets, work, records.side(side as u32).leaf)
 }
 
-// Gives the lane along a side a rate, from its low end to its high end or back, and makes the sheets of the pieces that hold the
-// lane anew: how many they are. Where the side, its lanes or the room is missing, nothing is written, and the answer is 0.
+// Gives a lane a rate, and makes the sheets of the pieces that hold the lane anew: how many they are.
+// Where the side, its lanes or the room is missing, nothing is written.
 pub fn change_lane<R: Rate>(
-    sides: &[Side],
-    pieces: &[Piece],
+    records: Records,
     lanes: &mut [R],
     sheets: &mut [R],
     work: &mut [R],
-    side: u16,
-    back: bool,
+    lane: Lane,
     rate: R,
-) -> usize
-    ensures rewritten { Room sides.now (length lanes.old) (length sheets.old) (length work.old) side → LaneRewritten sides.now pieces.now side back rate lanes.old sheets.old work.old result lanes.new sheets.new work.new }
-    ensures refused { (Room sides.now (length lanes.old) (length sheets.old) (length work.old) side → ⊥) → (lanes.new ≡ lanes.old) × Untouched sheets.old work.old result sheets.new work.new }
-    ensures changed { (n : ℕ) (m : LaneMap R.Member) → 64 ≤ length work.old → InOrder R.kind n m sides.now pieces.now (map R.means lanes.old) (map R.means sheets.old) → MayChange R.kind n (ends_of sides.now) m side back (R.means rate) → LaneChanged R.kind n m sides.now pieces.now side back (R.means rate) (map R.means lanes.new) (map R.means sheets.old) (map R.means sheets.new) result }
+) -> Result<usize, NoRoom>
+    ensures rewritten { Room records.entry.sides.now (length lanes.old) (length sheets.old) (length work.old) lane.side → IsOkAnd result (λ count. LaneRewritten records.entry.sides.now records.entry.pieces.now lane.side lane.back rate lanes.old sheets.old work.old count lanes.new sheets.new work.new) }
+    ensures refused { (Room records.entry.sides.now (length lanes.old) (length sheets.old) (length work.old) lane.side → ⊥) → IsErr result }
+    ensures untouched { OnErr result ((lanes.new ≡ lanes.old) × Untouched sheets.old work.old sheets.new work.new) }
+    ensures changed { (n : ℕ) (m : LaneMap R.Member) → 64 ≤ length work.old → InOrder R.kind n m records.entry.sides.now records.entry.pieces.now (map R.means lanes.old) (map R.means sheets.old) → MayChange R.kind n (ends_of records.entry.sides.now) m lane.side lane.back (R.means rate) → IsOkAnd result (λ count. LaneChanged R.kind n m records.entry.sides.now records.entry.pieces.now lane.side lane.back (R.means rate) (map R.means lanes.new) (map R.means sheets.old) (map R.means sheets.new) count) }
 {
-    let leaf = side_at(sides, side as u32).leaf;
-    if !has_room(sides, lanes.len(), sheets.len(), work.len(), side, leaf) {
-        return 0;
-    }
-    let place = place_of_lane(side, back);
-    lanes[place] = rate;
-    rewrite_up(sides, pieces, lanes, sheets, work, leaf)
+    check_lane(records, lanes.len(), sheets.len(), work.len(), lane.side)?;
+    lanes[lane.place()] = rate;
+    let leaf = records.side(lane.side as u32).leaf;
+    rewrite_up(records, lanes, sheets, work, leaf)
 }

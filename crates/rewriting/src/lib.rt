@@ -6,6 +6,6 @@ mod change;
 mod one;
 mod up;
 
-pub use bare::{clear_lanes, write_bare_sheets};
-pub use change::change_lane;
-pub use up::rewrite_up;
+pub use bare::write_bare_sheets;
+pub use change::{Lane, change_lane};
+pub use up::{NoRoom, rewrite_up};

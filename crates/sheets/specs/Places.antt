@@ -13,6 +13,10 @@ pub record PartShows (terminals edges : List ℕ) (x y : ℕ) (p : Part) : Type 
   pub counted : p.count ≡ length edges
   pub there : (k : ℕ) → k < length terminals → slice_index p.at k ≡ place edges (slice_index terminals k)
 
+-- each place k of an area holds what fits there
+pub record EachPlace {X : Type 0} (fits : ℕ → X → Type 0) (area : List X) : Type 0 where
+  pub there : (k : ℕ) (d : X) → k < length area → fits k (slice_index_or area k d)
+
 module _ {M : Type 0} (K : Kind M) where
   -- the rate from the edge terminal i to the edge terminal j
   abbrev pub cell : List M → ℕ → ℕ → M

@@ -4,8 +4,9 @@ use Rattle.std.specs.Prelude.{◌≡◌, ℕ, ◌+◌, ◌*◌, ◌/◌, ◌%◌
 use Rattle.rates.specs.Kinds.{Kind}
 use Rattle.trips.specs.Trips.{LaneMap}
 use Rattle.pieces.specs.Sides.{Ends, span, right_of}
-use Rattle.piece_rates.specs.Leaves.{rate_if}
+use Rattle.piece_rates.specs.Leaves.{corner_lanes, rate_if}
 use Rattle.piece_rates.specs.Triangles.{triangle_entry}
+use Rattle.sheets.specs.declared.leaf.Triangle.{Triangle}
 
 module _ {M : Type 0} (K : Kind M) where
   -- the corners and the lanes of the triangle with the base b
@@ -24,3 +25,21 @@ module _ {M : Type 0} (K : Kind M) where
   abbrev pub leaf_place : ℕ → ℕ → ℕ → LaneMap M → List ℕ → ℕ → M
   leaf_place a b c m edges k =
       cond (nat_lt (k / 8) (length edges) && nat_lt (k % 8) (length edges)) (triangle_entry K a b c m (slice_index edges (k / 8)) (slice_index edges (k % 8))) K.none
+
+-- the same of a triangle whose rates are values with a meaning
+module _ {V M : Type 0} (K : Kind M) (means : V → M) where
+  -- the lanes between its corners
+  abbrev pub triangle_lanes : Triangle V → LaneMap M
+  triangle_lanes t = corner_lanes K t.low t.third t.high (means t.left.up) (means t.left.down) (means t.right.up) (means t.right.down) (means t.base.up) (means t.base.down)
+
+  -- the best rate from u to v over them
+  abbrev pub triangle_best : Triangle V → ℕ → ℕ → M
+  triangle_best t u v = triangle_entry K t.low t.third t.high (triangle_lanes t) u v
+
+  -- place k of the sheet
+  abbrev pub triangle_place : Triangle V → List ℕ → ℕ → M
+  triangle_place t edges k = leaf_place K t.low t.third t.high (triangle_lanes t) edges k
+
+  -- it is the triangle with the base b, as the sides and the lane area show it
+  abbrev pub IsTriangleOn : Ends → ℕ → List M → Triangle V → Type 0
+  IsTriangleOn e b area t = TriangleRead K e b area t.low t.third t.high (means t.left.up) (means t.left.down) (means t.right.up) (means t.right.down) (means t.base.up) (means t.base.down)

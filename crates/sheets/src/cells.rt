@@ -1,14 +1,14 @@
 // Single places of a sheet, and the step in which rates are joined.
-ghost use Rattle.std.specs.Prelude.{◌≡◌, ◌+◌, ◌≤◌, map, slice_index_or};
+ghost use Rattle.std.specs.Prelude.{◌≡◌, ℕ, ◌+◌, ◌<◌, ◌≤◌, map, length, slice_index_or};
 ghost use Rattle.rates.specs.Kinds.{exact_size};
 ghost use Rattle.rates.specs.Many.{better_of};
-ghost use Rattle.sheets.specs.Places.{cell};
+ghost use Rattle.sheets.specs.Places.{cell, EachPlace};
 
 use rates::kind::Rate;
 use rates::many::better_of_two;
 
 // A sheet has a row of 8 places for each of up to 8 edge terminals.
-pub(crate) const ROW: usize = 8;
+pub const ROW: usize = 8;
 
 pub const SHEET: usize = 64;
 
@@ -34,4 +34,22 @@ pub fn better_joined<R: Rate>(best: R, one: R, other: R) -> R
     ensures { R.kind.size (R.means one) + R.kind.size (R.means other) ≤ exact_size → R.means result ≡ better_of R.kind (R.means best) (R.kind.join (R.means one) (R.means other)) }
 {
     better_of_two(best, one.join(other))
+}
+
+// Writes f(k) at each place k of an area.
+pub fn write_each<R: Copy, F: Fn(usize) -> R>(area: &mut [R], f: F)
+    requires { (k : ℕ) → k < length area.old → F.pre f k }
+    ensures { EachPlace (F.post f) area.new }
+{
+    // By index: of what is written through `iter_mut().enumerate()` no proof knows anything.
+    for k in 0..area.len() {
+        area[k] = f(k);
+    }
+}
+
+// None at each place of an area.
+pub fn clear_rates<R: Rate>(area: &mut [R])
+    ensures { (k : ℕ) → slice_index_or (map R.means area.new) k R.kind.none ≡ R.kind.none }
+{
+    write_each(area, |_| R::none());
 }

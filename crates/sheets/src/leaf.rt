@@ -3,12 +3,12 @@ ghost use Rattle.std.specs.Prelude.{◌≡◌, ℕ, ◌+◌, ◌*◌, ◌/◌, �
 ghost use Rattle.trips.specs.Trips.{LaneMap};
 ghost use Rattle.records.specs.Few.{listed};
 ghost use Rattle.pieces.specs.Sides.{Ends, ends_of};
-ghost use Rattle.piece_rates.specs.Leaves.{along, corner_lanes, LanesWithin, LeafSheet, LeafStands, rate_if};
+ghost use Rattle.piece_rates.specs.Leaves.{along, LanesWithin, LeafStands, rate_if};
 ghost use Rattle.piece_rates.specs.Sheets.{SheetShows};
-ghost use Rattle.piece_rates.specs.Triangles.{third_corner, triangle_entry};
-ghost use Rattle.sheets.specs.Triangles.{leaf_place, TriangleRead};
+ghost use Rattle.piece_rates.specs.Triangles.{third_corner};
+ghost use Rattle.sheets.specs.Triangles.{IsTriangleOn, triangle_best, triangle_lanes, triangle_place};
 
-use crate::cells::{ROW, SHEET, better_joined, rate_at};
+use crate::cells::{ROW, SHEET, better_joined, rate_at, write_each};
 use holders::side_at;
 use rates::kind::Rate;
 use records::{Few, Piece};
@@ -52,7 +52,7 @@ fn both_at<R: Rate>(lanes: &[R], side: u32, counted: bool) -> Both<R>
 
 // The triangle on a base. The lanes of its other two sides belong to it where they have length 1.
 pub fn triangle_on<R: Rate>(sides: &[Side], lanes: &[R], base: u16) -> Triangle<R>
-    ensures { TriangleRead R.kind (ends_of sides.now) base (map R.means lanes.now) result.low result.third result.high (R.means result.left.up) (R.means result.left.down) (R.means result.right.up) (R.means result.right.down) (R.means result.base.up) (R.means result.base.down) }
+    ensures { IsTriangleOn R.kind R.means (ends_of sides.now) base (map R.means lanes.now) result }
 {
     let top = side_at(sides, base as u32);
     let left = side_at(sides, base as u32 + 1);
@@ -84,7 +84,7 @@ fn rate_along<R: Rate>(a: u16, b: u16, both: Both<R>, u: u16, v: u16, others: R)
 
 // The rate of the triangle's lane from u to v.
 pub fn lane_of<R: Rate>(t: Triangle<R>, u: u16, v: u16) -> R
-    ensures { R.means result ≡ corner_lanes R.kind t.low t.third t.high (R.means t.left.up) (R.means t.left.down) (R.means t.right.up) (R.means t.right.down) (R.means t.base.up) (R.means t.base.down) u v }
+    ensures { R.means result ≡ triangle_lanes R.kind R.means t u v }
 {
     let base = rate_along(t.low, t.high, t.base, u, v, R::none());
     let right = rate_along(t.third, t.high, t.right, u, v, base);
@@ -106,7 +106,7 @@ pub fn other_corner(a: u16, b: u16, c: u16, u: u16, v: u16) -> u16
 
 // The best rate from u to v within the triangle.
 pub fn leaf_entry<R: Rate>(t: Triangle<R>, u: u16, v: u16) -> R
-    ensures { LanesWithin R.kind (corner_lanes R.kind t.low t.third t.high (R.means t.left.up) (R.means t.left.down) (R.means t.right.up) (R.means t.right.down) (R.means t.base.up) (R.means t.base.down)) → R.means result ≡ triangle_entry R.kind t.low t.third t.high (corner_lanes R.kind t.low t.third t.high (R.means t.left.up) (R.means t.left.down) (R.means t.right.up) (R.means t.right.down) (R.means t.base.up) (R.means t.base.down)) u v }
+    ensures { LanesWithin R.kind (triangle_lanes R.kind R.means t) → R.means result ≡ triangle_best R.kind R.means t u v }
 {
     if u == v {
         return R::still();
@@ -118,7 +118,7 @@ pub fn leaf_entry<R: Rate>(t: Triangle<R>, u: u16, v: u16) -> R
 // The place k of the sheet: none at an unused one.
 fn leaf_at<R: Rate>(t: Triangle<R>, edges: Few, count: usize, k: usize) -> R
     requires { count ≡ length (listed edges) }
-    ensures { LanesWithin R.kind (corner_lanes R.kind t.low t.third t.high (R.means t.left.up) (R.means t.left.down) (R.means t.right.up) (R.means t.right.down) (R.means t.base.up) (R.means t.base.down)) → R.means result ≡ leaf_place R.kind t.low t.third t.high (corner_lanes R.kind t.low t.third t.high (R.means t.left.up) (R.means t.left.down) (R.means t.right.up) (R.means t.right.down) (R.means t.base.up) (R.means t.base.down)) (listed edges) k }
+    ensures { LanesWithin R.kind (triangle_lanes R.kind R.means t) → R.means result ≡ triangle_place R.kind R.means t (listed edges) k }
 {
     if (k / ROW < count) & (k % ROW < count) {
         leaf_entry(t, edges.get(k / ROW), edges.get(k % ROW))
@@ -138,7 +138,5 @@ pub fn write_leaf<R: Rate>(sides: &[Side], lanes: &[R], piece: Piece, sheet: &mu
     }
     let t = triangle_on(sides, lanes, piece.top);
     let count = piece.edges.len();
-    for k in 0..SHEET {
-        sheet[k] = leaf_at(t, piece.edges, count, k);
-    }
+    write_each(&mut sheet[..SHEET], |k| leaf_at(t, piece.edges, count, k));
 }

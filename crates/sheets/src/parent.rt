@@ -1,5 +1,5 @@
 // A parent's sheet from its children's: each row is a climb.
-ghost use Rattle.std.specs.Prelude.{◌≡◌, ℕ, ◌+◌, ◌*◌, ◌<◌, ◌≤◌, List, map, length, drop, slice_index, slice_index_or};
+ghost use Rattle.std.specs.Prelude.{◌≡◌, ℕ, ◌+◌, ◌*◌, ◌<◌, ◌≤◌, cond, map, length, drop, nat_lt, slice_index};
 ghost use Rattle.pieces.specs.Sides.{Ends};
 ghost use Rattle.records.specs.Few.{listed};
 ghost use Rattle.trips.specs.Trips.{LaneMap};
@@ -9,10 +9,11 @@ ghost use Rattle.piece_rates.specs.Sheets.{SheetShows};
 ghost use Rattle.piece_rates.specs.Sizes.{largest, Within};
 ghost use Rattle.sheets.specs.Places.{by_seam_at, climb_at, climbed_at, ParentRow, PartShows, Row, to_seam_at};
 
-use crate::cells::{ROW, SHEET, better_joined, cell_at};
+use crate::cells::{ROW, SHEET, better_joined, cell_at, clear_rates, write_each};
 use rates::kind::Rate;
 use rates::many::better_of_two;
 use records::{Few, Piece};
+use std::array;
 
 // A piece, its two parts, and the ends of the seam between them.
 #[derive(Clone, Copy)]
@@ -38,22 +39,15 @@ pub struct Part {
 pub fn place_of(edges: Few, terminal: u16) -> u8
     ensures { result ≡ place (listed edges) terminal }
 {
-    let count = edges.len();
-    match edges.position(terminal) {
-        Some(k) => k as u8,
-        None => count as u8,
-    }
+    // The count, and no `None`: the promises of a climb read sheets at this number.
+    edges.position(terminal).unwrap_or(edges.len()) as u8
 }
 
 // The places of a piece's edge terminals among those of a part.
 fn places_of(edges: Few, terminals: Few) -> [u8; 8]
     ensures { (k : ℕ) → k < length (listed terminals) → slice_index result k ≡ place (listed edges) (slice_index (listed terminals) k) }
 {
-    let mut at = [0; 8];
-    for k in 0..terminals.len() {
-        at[k] = place_of(edges, terminals.get(k));
-    }
-    at
+    array::from_fn(|k| place_of(edges, terminals.get(k)))
 }
 
 // A part as a climb needs it.
@@ -68,6 +62,20 @@ fn part_of(cut: Cut, edges: Few) -> Part
     }
 }
 
+// A part's sheet, and the part as a climb needs it.
+#[derive(Clone, Copy)]
+struct PartSheet<'a, R> {
+    sheet: &'a [R],
+    part: Part,
+}
+
+// The rates to the low and to the high end of a seam.
+#[derive(Clone, Copy)]
+struct ToSeam<R> {
+    low: R,
+    high: R,
+}
+
 // From a part's edge terminal i to an end of the seam: straight, or to the other end and back through the other part.
 // An end comes as its places in the two parts.
 fn to_seam<R: Rate>(own: &[R], other: &[R], i: u8, to: (u8, u8), round: (u8, u8)) -> R
@@ -80,79 +88,83 @@ fn to_seam<R: Rate>(own: &[R], other: &[R], i: u8, to: (u8, u8), round: (u8, u8)
     )
 }
 
+// From the edge terminal i of a part to both ends of the seam.
+fn to_ends<R: Rate>(own: PartSheet<R>, other: PartSheet<R>, i: u8) -> ToSeam<R>
+    ensures low { Within R.kind (map R.means own.entry.sheet.now) → Within R.kind (map R.means other.entry.sheet.now) → R.means result.low ≡ to_seam_at R.kind (map R.means own.entry.sheet.now) (map R.means other.entry.sheet.now) i (own.entry.part.low, other.entry.part.low) (own.entry.part.high, other.entry.part.high) }
+    ensures high { Within R.kind (map R.means own.entry.sheet.now) → Within R.kind (map R.means other.entry.sheet.now) → R.means result.high ≡ to_seam_at R.kind (map R.means own.entry.sheet.now) (map R.means other.entry.sheet.now) i (own.entry.part.high, other.entry.part.high) (own.entry.part.low, other.entry.part.low) }
+{
+    let low = (own.part.low, other.part.low);
+    let high = (own.part.high, other.part.high);
+    ToSeam {
+        low: to_seam(own.sheet, other.sheet, i, low, high),
+        high: to_seam(own.sheet, other.sheet, i, high, low),
+    }
+}
+
 // By either end of the seam, at the rates to them, and through a part to its edge terminal j.
-fn by_seam<R: Rate>(low: R, high: R, sheet: &[R], ends: (u8, u8), j: u8) -> R
-    ensures { Within R.kind (map R.means sheet.now) → R.kind.size (R.means low) ≤ 2 * largest → R.kind.size (R.means high) ≤ 2 * largest → R.means result ≡ by_seam_at R.kind (R.means low) (R.means high) (map R.means sheet.now) ends j }
+fn by_seam<R: Rate>(to: ToSeam<R>, through: PartSheet<R>, j: u8) -> R
+    ensures { Within R.kind (map R.means through.entry.sheet.now) → R.kind.size (R.means to.low) ≤ 2 * largest → R.kind.size (R.means to.high) ≤ 2 * largest → R.means result ≡ by_seam_at R.kind (R.means to.low) (R.means to.high) (map R.means through.entry.sheet.now) (through.entry.part.low, through.entry.part.high) j }
 {
     better_joined(
-        low.join(cell_at(sheet, ends.0, j)),
-        high,
-        cell_at(sheet, ends.1, j),
+        to.low.join(cell_at(through.sheet, through.part.low, j)),
+        to.high,
+        cell_at(through.sheet, through.part.high, j),
     )
 }
 
-// The climb from the edge terminal i of the part p to the edge terminal k of the cut piece, given the rates to the seam's ends.
-fn climb_to<R: Rate>(
-    own: &[R],
-    other: &[R],
-    p: Part,
-    q: Part,
-    low: R,
-    high: R,
+// The climb from the edge terminal i of the own part to the edge terminal k of the cut piece, given the rates to the seam's ends.
+fn climb_to<R: Rate>(own: PartSheet<R>, other: PartSheet<R>, to: ToSeam<R>, i: u8, k: usize) -> R
+    requires { k < 8 }
+    ensures { Within R.kind (map R.means own.entry.sheet.now) → Within R.kind (map R.means other.entry.sheet.now) → R.kind.size (R.means to.low) ≤ 2 * largest → R.kind.size (R.means to.high) ≤ 2 * largest → R.means result ≡ climb_at R.kind own.entry.part other.entry.part (map R.means own.entry.sheet.now) (map R.means other.entry.sheet.now) (R.means to.low) (R.means to.high) i k }
+{
+    let j = own.part.at[k];
+    if j < own.part.count {
+        better_of_two(cell_at(own.sheet, i, j), by_seam(to, own, j))
+    } else {
+        by_seam(to, other, other.part.at[k])
+    }
+}
+
+// The place k of a row: the climb to the edge terminal k, and none from `count` on.
+fn row_at<R: Rate>(
+    own: PartSheet<R>,
+    other: PartSheet<R>,
+    to: ToSeam<R>,
     i: u8,
+    count: usize,
     k: usize,
 ) -> R
     requires { k < 8 }
-    ensures { Within R.kind (map R.means own.now) → Within R.kind (map R.means other.now) → R.kind.size (R.means low) ≤ 2 * largest → R.kind.size (R.means high) ≤ 2 * largest → R.means result ≡ climb_at R.kind p q (map R.means own.now) (map R.means other.now) (R.means low) (R.means high) i k }
+    ensures { Within R.kind (map R.means own.entry.sheet.now) → Within R.kind (map R.means other.entry.sheet.now) → R.kind.size (R.means to.low) ≤ 2 * largest → R.kind.size (R.means to.high) ≤ 2 * largest → R.means result ≡ cond (nat_lt k count) (climb_at R.kind own.entry.part other.entry.part (map R.means own.entry.sheet.now) (map R.means other.entry.sheet.now) (R.means to.low) (R.means to.high) i k) R.kind.none }
 {
-    let j = p.at[k];
-    if j < p.count {
-        better_of_two(
-            cell_at(own, i, j),
-            by_seam(low, high, own, (p.low, p.high), j),
-        )
+    if k < count {
+        climb_to(own, other, to, i, k)
     } else {
-        by_seam(low, high, other, (q.low, q.high), q.at[k])
+        R::none()
     }
 }
 
-// A row of the cut piece's sheet: the climb from the edge terminal i of the part p to each of its `count` edge terminals.
-fn climb_row<R: Rate>(own: &[R], other: &[R], p: Part, q: Part, i: u8, count: usize, row: &mut [R])
+// A row of the cut piece's sheet: the climb from the edge terminal i of the own part to each of its `count` edge terminals.
+fn climb_row<R: Rate>(own: PartSheet<R>, other: PartSheet<R>, i: u8, count: usize, row: &mut [R])
     requires { length row.old ≡ 8 }
-    ensures { Within R.kind (map R.means own.now) → Within R.kind (map R.means other.now) → Row R.kind count (climbed_at R.kind p q (map R.means own.now) (map R.means other.now) i) (map R.means row.new) }
+    ensures { Within R.kind (map R.means own.entry.sheet.now) → Within R.kind (map R.means other.entry.sheet.now) → Row R.kind count (climbed_at R.kind own.entry.part other.entry.part (map R.means own.entry.sheet.now) (map R.means other.entry.sheet.now) i) (map R.means row.new) }
 {
-    let low = to_seam(own, other, i, (p.low, q.low), (p.high, q.high));
-    let high = to_seam(own, other, i, (p.high, q.high), (p.low, q.low));
-    for k in 0..ROW {
-        let rate = if k < count {
-            climb_to(own, other, p, q, low, high, i, k)
-        } else {
-            R::none()
-        };
-        row[k] = rate;
-    }
-}
-
-// None at each place of a row.
-fn clear_row<R: Rate>(row: &mut [R])
-    ensures { (k : ℕ) → slice_index_or (map R.means row.new) k R.kind.none ≡ R.kind.none }
-{
-    for k in 0..row.len() {
-        row[k] = R::none();
-    }
+    let to = to_ends(own, other, i);
+    write_each(row, |k| row_at(own, other, to, i, count, k));
 }
 
 // The row of the edge terminal i of the cut piece: the climb from where it stands in the first part that has it.
-fn parent_row<R: Rate>(a: &[R], b: &[R], p: Part, q: Part, count: usize, i: usize, row: &mut [R])
-    requires { (i < 8) × (length row.old ≡ 8) }
-    ensures { Within R.kind (map R.means a.now) → Within R.kind (map R.means b.now) → ParentRow R.kind count p q (map R.means a.now) (map R.means b.now) i (map R.means row.new) }
+fn parent_row<R: Rate>(a: PartSheet<R>, b: PartSheet<R>, count: usize, i: usize, row: &mut [R])
+    requires a_row { i < 8 }
+    requires eight_places { length row.old ≡ 8 }
+    ensures { Within R.kind (map R.means a.entry.sheet.now) → Within R.kind (map R.means b.entry.sheet.now) → ParentRow R.kind count a.entry.part b.entry.part (map R.means a.entry.sheet.now) (map R.means b.entry.sheet.now) i (map R.means row.new) }
 {
     if i >= count {
-        clear_row(row);
-    } else if p.at[i] < p.count {
-        climb_row(a, b, p, q, p.at[i], count, row);
+        clear_rates(row);
+    } else if a.part.at[i] < a.part.count {
+        climb_row(a, b, a.part.at[i], count, row);
     } else {
-        climb_row(b, a, q, p, q.at[i], count, row);
+        climb_row(b, a, b.part.at[i], count, row);
     }
 }
 
@@ -166,10 +178,17 @@ pub fn write_parent<R: Rate>(cut: Cut, a: &[R], b: &[R], sheet: &mut [R])
     if sheet.len() < SHEET {
         return;
     }
-    let p = part_of(cut, cut.first.edges);
-    let q = part_of(cut, cut.second.edges);
+    let first = PartSheet {
+        sheet: a,
+        part: part_of(cut, cut.first.edges),
+    };
+    let second = PartSheet {
+        sheet: b,
+        part: part_of(cut, cut.second.edges),
+    };
     let count = cut.piece.edges.len();
+    // By index: of what is written through `chunks_exact_mut` no proof knows anything.
     for i in 0..ROW {
-        parent_row(a, b, p, q, count, i, &mut sheet[ROW * i..ROW * i + ROW]);
+        parent_row(first, second, count, i, &mut sheet[ROW * i..ROW * i + ROW]);
     }
 }

@@ -10,7 +10,7 @@ abbrev pub invariant-loop-k : goal.invariant-loop-k
 invariant-loop-k g l =
     let K = g.R.Rate.kind in
     let m = g.R.Rate.means in
-    let e = ends_of l.sides in
-    UnderWay l.pieces l.from l.k l.p l.initial.sheets l.initial.work l.sheets l.work
-    × ((n : ℕ) (lanes : LaneMap g.R.Rate.Member) → PlanStands K n lanes l.sides l.pieces (map m l.lanes) (map m l.initial.sheets) → l.from + 5 < 2 * n
-    → OffWayShown K n e l.pieces lanes (map m l.initial.sheets) 41 l.from → OffWayShown K n e l.pieces lanes (map m l.sheets) (41 - l.k) l.p)
+    let e = ends_of l.records.sides.now in
+    UnderWay l.records.pieces.now l.from l.k l.p l.initial.sheets l.initial.work l.sheets l.work
+    × ((n : ℕ) (lanes : LaneMap g.R.Rate.Member) → PlanStands K n lanes l.records.sides.now l.records.pieces.now (map m l.lanes) (map m l.initial.sheets) → l.from + 5 < 2 * n
+    → OffWayShown K n e l.records.pieces.now lanes (map m l.initial.sheets) 41 l.from → OffWayShown K n e l.records.pieces.now lanes (map m l.sheets) (41 - l.k) l.p)

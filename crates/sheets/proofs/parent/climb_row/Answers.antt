@@ -1,26 +1,15 @@
-use Rattle.std.proofs.Common.{◌<◌, cond, ltb, map, length, ap, ◌∙◌, arith, rules}
+use Rattle.std.proofs.Common.{cond, ltb, map, arith, rules}
 use Rattle.sheets.specs.Places.{climbed_at}
-use Rattle.sheets.proofs.Reading.{row_next, climbed_below, none_past}
+use Rattle.sheets.proofs.Reading.{climbed_there, place_means}
 use Rattle.sheets.proofs.parent.climb_row.Goals as goal
-use Rattle.sheets.proofs.parent.climb_row.Goals.{then-k-count, else-k-count}
 
-pub offset_bounds-row-k : goal.offset_bounds-row-k
-offset_bounds-row-k g c = let h : c.loop-k.k < length c.args.row.now = omega arith in search rules
-
-pub loop-k-preserved : goal.loop-k-preserved
-loop-k-preserved g c a b =
+pub returns : goal.returns
+returns g c a b k l =
     let K = g.R.Rate.kind in
-    let X = g.met.R.Rate.laws in
     let m = g.R.Rate.means in
-    let own = map m c.args.own.now in
-    let other = map m c.args.other.now in
-    row_next K X m (λ k. cond (ltb k c.args.count) (climbed_at K c.args.p c.args.q own other c.args.i k) K.none)
-    c.loop-k.row c.loop-k.k c.if-k-count.rate (omega arith)
-    (elim c.if-k-count.branch [
-      | then-k-count w ↦ ap m w.rate-is ∙ climbed_below K X c.args.p c.args.q own other c.args.i c.loop-k.k c.args.count
-          (m w.climb_to-rate.result) (m c.to_seam-low.result) (m c.to_seam-high.result) a b
-          (c.to_seam-low.ensures a b) (c.to_seam-high.ensures a b) (w.climb_to-rate.ensures a b) w.if-k-count.true
-      | else-k-count w ↦ ap m w.rate-is ∙ none_past K X (climbed_at K c.args.p c.args.q own other c.args.i c.loop-k.k) c.loop-k.k c.args.count
-          (m w.none-rate.result) w.none-rate.ensures w.if-k-count.false
-    ])
-    (c.loop-k.invariant a b)
+    let own = map m c.args.own.sheet.now in
+    let other = map m c.args.other.sheet.now in
+    place_means K g.met.R.Rate.laws m c.write_each.new.area c.write_each.ensures
+    (λ j. cond (ltb j c.args.count) (climbed_at K c.args.own.part c.args.other.part own other c.args.i j) K.none)
+    (λ j v l' post. climbed_there K g.met.R.Rate.laws c.args.own.part c.args.other.part own other c.args.i j c.args.count (m v) (m c.to_ends-to.result.low) (m c.to_ends-to.result.high)
+    a b (c.to_ends-to.ensures.low a b) (c.to_ends-to.ensures.high a b) (λ s t. search rules)) k (omega (arith, c.write_each.auto.area))

@@ -1,13 +1,19 @@
-use Rattle.std.proofs.Common.{sym, ◌∙◌, arith}
+use Rattle.std.specs.Prelude.{unwrap_or}
+use Rattle.std.proofs.Common.{◌≡◌, ap, ◌∙◌, arith}
 use Rattle.records.specs.Few.{listed}
-use Rattle.piece_rates.proofs.Places.{place_first, place_absent}
+use Rattle.piece_rates.specs.Climbing.{place}
+use Rattle.piece_rates.proofs.Places.{place_at_most}
+use Rattle.sheets.proofs.Reading.{position_place}
 use Rattle.sheets.proofs.parent.place_of.Goals as goal
 
+stands : (c : goal.After-unwrap_or) → c.unwrap_or.result ≡ place (listed c.args.edges) c.args.terminal
+stands c =
+    c.unwrap_or.ensures
+    ∙ ap (unwrap_or c.position.result) c.len.ensures.is
+    ∙ position_place (listed c.args.edges) c.args.terminal c.position.result c.position.ensures
+
 pub overflow_cast-result : goal.overflow_cast-result
-overflow_cast-result c = omega (arith, c.in-Some.ensures.inside)
+overflow_cast-result c = omega (arith, stands c, place_at_most (listed c.args.edges) c.args.terminal, c.len.ensures.is, c.len.ensures.few)
 
-pub returns-in-Some : goal.returns-in-Some
-returns-in-Some c = sym (place_first (listed c.args.edges) c.args.terminal c.in-Some.k c.in-Some.ensures)
-
-pub returns-in-None : goal.returns-in-None
-returns-in-None c = c.len-count.ensures.is ∙ sym (place_absent (listed c.args.edges) c.args.terminal c.in-None.ensures)
+pub returns : goal.returns
+returns c = stands c

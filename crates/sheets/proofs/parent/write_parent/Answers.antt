@@ -18,14 +18,14 @@ loop-i-preserved g c =
       drop-put_mid (8 * i) (8 * i + 8 - 8 * i) c.loop-i.sheet row 64 (omega arith) (omega arith) (omega arith) ∙ c.loop-i.invariant.0,
       λ wa wb. rows_next K m
           (λ r k. cond (ltb k (cond (ltb r c.len-count.result) c.len-count.result 0))
-          (entry_at K c.part_of-p.result c.part_of-q.result (map m c.args.a.now) (map m c.args.b.now) r k) K.none)
+          (entry_at K c.part_of.result c.part_of-2.result (map m c.args.a.now) (map m c.args.b.now) r k) K.none)
           c.loop-i.sheet row i (8 * i + 8 - 8 * i) (omega arith) size (c.loop-i.invariant.1 wa wb) (c.parent_row.ensures wa wb),
     )
 
 written : (g : Rattle.sheets.proofs.parent.write_parent.Given.Over) (c : goal.After-loop-i g) → Within g.R.Rate.kind (map g.R.Rate.means c.args.a.now) → Within g.R.Rate.kind (map g.R.Rate.means c.args.b.now) → ParentSheet g.R.Rate.kind c.args.cut.piece c.args.cut.first c.args.cut.second c.args.cut.low c.args.cut.high (map g.R.Rate.means c.args.a.now) (map g.R.Rate.means c.args.b.now) (map g.R.Rate.means c.loop-i.sheet)
 written g c wa wb =
     rows_are_sheet g.R.Rate.kind c.args.cut.piece c.args.cut.first c.args.cut.second c.args.cut.low c.args.cut.high
-    c.part_of-p.result c.part_of-q.result c.part_of-p.ensures c.part_of-q.ensures
+    c.part_of.result c.part_of-2.result c.part_of.ensures c.part_of-2.ensures
     (map g.R.Rate.means c.args.a.now) (map g.R.Rate.means c.args.b.now) c.len-count.result (map g.R.Rate.means c.loop-i.sheet)
     c.len-count.ensures.is c.len-count.ensures.few (λ i k l l'. c.loop-i.invariant.1 wa wb i k (omega arith) l')
 

@@ -1,5 +1,0 @@
-use Rattle.std.proofs.Common.{◌≡◌, ℕ, ◌<◌, map, get_or}
-use Rattle.sheets.proofs.parent.clear_row.Given as goal
-
-abbrev pub invariant-loop-k : goal.invariant-loop-k
-invariant-loop-k g l = (k : ℕ) → k < l.k → get_or (map g.R.Rate.means l.row) k g.R.Rate.kind.none ≡ g.R.Rate.kind.none

@@ -1,7 +1,0 @@
-use Rattle.std.proofs.Common.{◌≡◌, ℕ, ◌<◌, length, get_or}
-use Rattle.records.specs.Few.{listed}
-use Rattle.piece_rates.specs.Climbing.{place}
-use Rattle.sheets.proofs.parent.places_of.Given as goal
-
-abbrev pub invariant-loop-k : goal.invariant-loop-k
-invariant-loop-k l = (length l.at ≡ 8) × ((k : ℕ) → k < l.k → get_or l.at k 0 ≡ place (listed l.edges) (get_or (listed l.terminals) k 0))
