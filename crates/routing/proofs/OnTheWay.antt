@@ -1,6 +1,6 @@
 -- Passing the next of the stops to come leaves a trip on its way, and at its end it is a best trip.
 -- Assumes the laws, and the lanes of a plan where no closed trip earns.
-use Rattle.std.proofs.Common.{◌≡◌, ℕ, ◌+◌, ◌<◌, ◌≤◌, min, List, [], ◌∷◌, ◌++◌, length, take, sym, refl, ap, ◌∙◌, subst, arith, length-append}
+use Rattle.std.proofs.Common.{◌≡◌, ℕ, ◌+◌, ◌<◌, ◌≤◌, List, [], ◌∷◌, ◌++◌, length, take, sym, refl, ap, ◌∙◌, subst, arith, length-append}
 use Rattle.std.specs.List.{AllByRecursion}
 use Rattle.std.proofs.lemmas.List.{length-take-le, take-append-le}
 use Rattle.rates.specs.Kinds.{Kind, Laws, NoWorse}
@@ -26,14 +26,13 @@ module _ {M : Type 0} (K : Kind M) (X : Laws K) (n : ℕ) (m : LaneMap M) (over 
   linked_below u (w ∷ list) l h = (l, linked_below w list (over u w h.0).1 h.1)
 
   pub pass_next : (s t : ℕ) (r : M) (w : ℕ) (rest places : List ℕ) (count : ℕ) → s < n → OnTheWay K n m s t r (w ∷ rest) places count
-      → (count' : ℕ) (places' : List ℕ) → length places' ≡ length places → Passed places (min count (length places)) w count' places' → OnTheWay K n m s t r rest places' count'
+      → (count' : ℕ) (places' : List ℕ) → length places' ≡ length places → Passed places count w count' places' → OnTheWay K n m s t r rest places' count'
   pass_next s t r w rest places count below h count' places' same_length p =
-      let c : min count (length places) ≡ count = omega (arith, h.inside) in
-      let stops_are = ap (λ k. take k places) c ∙ h.written in
+      let stops_are = h.written in
       let k = loops_are_cut K X m ne s h.here w h.passed h.rate_so_far h.so_far h.linked_on.0 in
       let few = pigeonhole n (s ∷ k.0) k.2.none_twice (linked_below s k.0 below k.2.linked) in
       let place_is = ap (λ l. place l w) stops_are in
-      let fits : place (take (min count (length places)) places) w < length places =
+      let fits : place (take count places) w < length places =
       omega (arith, place_is, passing_length (s ∷ h.passed) w, ap length k.1, few, h.room) in
       let q = p.room_for_it fits in
       record {

@@ -15,10 +15,11 @@ use Rattle.unfolding.specs.Turns.{Unfolds}
 use Rattle.unfolding.specs.Turns.Unfolds.{done}
 use Rattle.unfolding.proofs.Turns.{turn_by_turn}
 use Rattle.routing.specs.declared.waiting.Parts.{Parts}
+use Rattle.routing.specs.declared.waiting.Parts.TheVariants.{Within, Across, Round}
 use Rattle.routing.specs.Waiting.{part_of, kept_all}
 use Rattle.routing.specs.Turns.{FewBehind, OnTheWay, UnderWay}
 
--- parts put before others, three at a time
+-- parts put before others
 kept_append : (q : Part) (xs ys : List Part) → kept q xs ++ ys ≡ kept q (xs ++ ys)
 kept_append q xs ys =
     ⊎_elim
@@ -27,10 +28,12 @@ kept_append q xs ys =
     (cases_Bool (eqb q.from q.to))
 
 pub kept_all_append : (p : Parts) (ys : List Part) → kept_all p [] ++ ys ≡ kept_all p ys
-kept_all_append p ys =
-    kept_append (part_of p.first) (kept (part_of p.second) (kept (part_of p.third) [])) ys
-    ∙ ap (kept (part_of p.first))
-    (kept_append (part_of p.second) (kept (part_of p.third) []) ys ∙ ap (kept (part_of p.second)) (kept_append (part_of p.third) [] ys))
+kept_all_append (Within p) ys = kept_append (part_of p) [] ys
+kept_all_append (Across p q) ys =
+    kept_append (part_of p) (kept (part_of q) []) ys ∙ ap (kept (part_of p)) (kept_append (part_of q) [] ys)
+kept_all_append (Round p q r) ys =
+    kept_append (part_of p) (kept (part_of q) (kept (part_of r) [])) ys
+    ∙ ap (kept (part_of p)) (kept_append (part_of q) (kept (part_of r) []) ys ∙ ap (kept (part_of q)) (kept_append (part_of r) [] ys))
 
 module _ {M : Type 0} (K : Kind M) (n : ℕ) (e : Ends) (ps : List Piece) (area : List M) (best : ℕ → ℕ → ℕ → M) where
   -- what is left to unfold after the first part

@@ -1,4 +1,6 @@
 pub mod Waiting
-pub mod Turns
+pub mod Seams
 pub mod Splits
 pub mod Passes
+pub mod Turns
+pub mod Answers

@@ -1,6 +1,6 @@
 -- A trip while it is unfolded: what is written of it, and what still waits.
 -- Assumes the terms of `unfolding` and `stops`; n is the number of terminals, m the lanes of the plan.
-use Rattle.std.specs.Prelude.{◌≡◌, ℕ, ◌*◌, ◌≤◌, List, [], ◌∷◌, length, take, ◌≢◌}
+use Rattle.std.specs.Prelude.{◌≡◌, ℕ, ◌*◌, ◌≤◌, List, [], ◌∷◌, length, take, ◌≢◌, map}
 use Rattle.std.specs.List.{AllByRecursion}
 use Rattle.rates.specs.Kinds.{Kind, NoWorse}
 use Rattle.trips.specs.Trips.{LaneMap, Trip, rate, stops, NoneTwice, BestRate}
@@ -11,7 +11,11 @@ use Rattle.pieces.specs.Holding.{piece_at}
 use Rattle.unfolding.specs.Parts.{Part}
 use Rattle.unfolding.specs.Splitting.{PartStands}
 use Rattle.unfolding.specs.Turns.{Unfolds}
+use Rattle.stops.specs.declared.Stops.{Stops}
 use Rattle.stops.specs.Passing.{TripSoFar}
+use Rattle.quoting.specs.declared.areas.Areas.{Areas}
+use Rattle.quoting.specs.Areas.{ends}
+use Rattle.routing.specs.Splits.{RatedPlan}
 
 -- behind each part wait at most twice as many others as its piece's level
 abbrev pub FewBehind : List Piece → List Part → Type 0
@@ -56,3 +60,8 @@ module _ {M : Type 0} (K : Kind M) where
     pub rate_is_best : BestRate K m s t r
     pub no_trip : r ≡ K.none → count ≡ 0
     pub trip_written : (r ≢ K.none) → TripWritten m s t r places count
+
+-- In a plan, the trip from s to t at the rate r is under way, with these parts waiting and these stops passed.
+abbrev pub TripUnderWay : {V M : Type 0} {K : Kind M} {means : V → M} {a : Areas V} → RatedPlan K means a → ℕ → ℕ → M → ℕ → List Part → Stops → Type 0
+TripUnderWay {K = K} {means = means} {a = a} plan s t r left parts stops =
+    UnderWay K plan.n plan.lanes (ends a) a.records.pieces.now (map means a.lanes.now) plan.best s t r left parts stops.places.now stops.count

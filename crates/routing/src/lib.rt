@@ -8,5 +8,5 @@ mod trip;
 mod unfold;
 mod waiting;
 
-pub use trip::{TODO_PARTS, best_trip};
+pub use trip::{NoRoom, Route, TODO_PARTS, best_trip};
 pub use waiting::{Parts, RoutePart};

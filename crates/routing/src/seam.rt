@@ -1,9 +1,54 @@
 // The seam of a cut piece, and on which side of it terminals lie.
-ghost use Rattle.std.specs.Prelude.{◌≡◌};
+ghost use Rattle.std.specs.Prelude.{◌≡◌, not};
 ghost use Rattle.piece_rates.specs.Climbing.{seam_ends};
-ghost use Rattle.unfolding.specs.Parts.{both_lie, child, home, lies, together};
+ghost use Rattle.unfolding.specs.Parts.{both_lie, child, lies};
+ghost use Rattle.routing.specs.Seams.{is_first, is_low, LiesAs};
 
 use records::Piece;
+
+// A child of a cut piece.
+#[derive(Clone, Copy)]
+pub enum Child {
+    First,
+    Second,
+}
+
+impl Child {
+    pub(crate) fn other(self) -> Child
+        ensures { is_first result ≡ not (is_first self) }
+    {
+        match self {
+            Child::First => Child::Second,
+            Child::Second => Child::First,
+        }
+    }
+}
+
+// An end of a seam.
+#[derive(Clone, Copy)]
+pub enum End {
+    Low,
+    High,
+}
+
+impl End {
+    pub(crate) fn other(self) -> End
+        ensures { is_low result ≡ not (is_low self) }
+    {
+        match self {
+            End::Low => End::High,
+            End::High => End::Low,
+        }
+    }
+}
+
+// How two terminals of a cut piece lie: both in a child, the first if both do, or the first of them in a child and the second
+// in the other.
+#[derive(Clone, Copy)]
+pub enum Lie {
+    Together(Child),
+    Apart(Child),
+}
 
 // A cut piece, and the ends of its seam.
 #[derive(Clone, Copy)]
@@ -14,58 +59,52 @@ pub struct Seam {
 }
 
 impl Seam {
-    // The number of a part of the piece: the first, or else the second.
-    pub(crate) fn child(self, first: bool) -> u16
-        ensures { result ≡ child self.piece first }
+    // The number of a child.
+    pub(crate) fn child(self, which: Child) -> u16
+        ensures { result ≡ child self.piece (is_first which) }
     {
-        if first {
-            self.piece.first
-        } else {
-            self.piece.second
+        match which {
+            Child::First => self.piece.first,
+            Child::Second => self.piece.second,
         }
     }
 
-    // An end: the low one, or else the high one.
-    pub(crate) fn end(self, low: bool) -> u16
-        ensures { result ≡ seam_ends self.low self.high low }
+    pub(crate) fn end(self, end: End) -> u16
+        ensures { result ≡ seam_ends self.low self.high (is_low end) }
     {
-        if low { self.low } else { self.high }
-    }
-
-    // Whether a part has the terminal: the first from end to end, the second those not strictly between.
-    fn lies(self, first: bool, u: u16) -> bool
-        ensures { result ≡ lies self.low self.high first u }
-    {
-        if first {
-            (self.low <= u) & (u <= self.high)
-        } else {
-            (u <= self.low) | (self.high <= u)
+        match end {
+            End::Low => self.low,
+            End::High => self.high,
         }
     }
 
-    fn both_lie(self, first: bool, u: u16, v: u16) -> bool
-        ensures { result ≡ both_lie self.low self.high first u v }
+    // Whether a child has the terminal: the first from end to end, the second those not strictly between.
+    fn lies(self, which: Child, u: u16) -> bool
+        ensures { result ≡ lies self.low self.high (is_first which) u }
     {
-        self.lies(first, u) & self.lies(first, v)
+        match which {
+            Child::First => (self.low <= u) & (u <= self.high),
+            Child::Second => (u <= self.low) | (self.high <= u),
+        }
     }
 
-    // Whether one part has both terminals.
-    pub(crate) fn together(self, u: u16, v: u16) -> bool
-        ensures { result ≡ together self.low self.high u v }
+    fn both_lie(self, which: Child, u: u16, v: u16) -> bool
+        ensures { result ≡ both_lie self.low self.high (is_first which) u v }
     {
-        self.both_lie(true, u, v) | self.both_lie(false, u, v)
+        self.lies(which, u) & self.lies(which, v)
     }
 
-    // Whether the first part has both terminals; where no part has both, whether the first has u.
-    pub(crate) fn home(self, u: u16, v: u16) -> bool
-        ensures { result ≡ home self.low self.high u v }
+    pub(crate) fn lie(self, u: u16, v: u16) -> Lie
+        ensures { LiesAs self.low self.high u v result }
     {
-        if self.both_lie(true, u, v) {
-            true
-        } else if self.both_lie(false, u, v) {
-            false
+        if self.both_lie(Child::First, u, v) {
+            Lie::Together(Child::First)
+        } else if self.both_lie(Child::Second, u, v) {
+            Lie::Together(Child::Second)
+        } else if self.lies(Child::First, u) {
+            Lie::Apart(Child::First)
         } else {
-            self.lies(true, u)
+            Lie::Apart(Child::Second)
         }
     }
 }

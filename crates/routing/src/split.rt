@@ -1,140 +1,137 @@
 // A part of a cut piece, split at the seam into parts of its two children.
-ghost use Rattle.std.specs.Prelude.{◌≡◌, ℕ, not, [], map};
-ghost use Rattle.trips.specs.Trips.{LaneMap};
-ghost use Rattle.pieces.specs.Sides.{ends_of};
-ghost use Rattle.pieces.specs.Holding.{piece_at};
-ghost use Rattle.piece_rates.specs.Climbing.{seam_ends};
-ghost use Rattle.piece_rates.specs.Touching.{Touches};
-ghost use Rattle.unfolding.specs.Parts.{across_rate, child, round_rate, split_across, split_at, split_together};
-ghost use Rattle.routing.specs.Splits.{AtSeam, ChildRate, Touching};
-ghost use Rattle.routing.specs.Waiting.{kept_all};
+ghost use Rattle.std.specs.Prelude.{◌≡◌, [], if◌then◌else◌};
+ghost use Rattle.unfolding.specs.Parts.{child, split_across, split_at, split_together};
+ghost use Rattle.routing.specs.Seams.{is_first, is_low};
+ghost use Rattle.routing.specs.Splits.{Across, BothInChild, EndsApart, IsSeamOf, PartRate, PartTouches, RatedPlan, Round, TouchesSeam, Within};
+ghost use Rattle.routing.specs.Waiting.{kept_all, part_of};
 
-use crate::seam::Seam;
+use crate::seam::{Child, End, Lie, Seam};
 use crate::waiting::{Parts, RoutePart};
 use quoting::{Areas, best_within};
 use rates::kind::Rate;
 
-// The best rate from u to v over the lanes of a child of the cut piece.
-fn child_rate<R: Rate>(areas: Areas<'_, R>, seam: Seam, first: bool, u: u16, v: u16) -> R
-    ensures { (n : ℕ) (m : LaneMap R.Member) (best : ℕ → ℕ → ℕ → R.Member) → AtSeam R.kind n m areas.entry.sides.now areas.entry.pieces.now (map R.means areas.entry.lanes.now) (map R.means areas.entry.sheets.now) best seam.piece seam.low seam.high → Touching n areas.entry.sides.now areas.entry.pieces.now seam.piece first u → Touching n areas.entry.sides.now areas.entry.pieces.now seam.piece first v → ChildRate R.kind best seam.piece first u v (R.means result) }
-{
-    best_within(areas, seam.child(first), u, v)
+// A way to split a part: the parts, and their rates joined.
+#[derive(Clone, Copy)]
+pub struct Way<R> {
+    pub parts: Parts,
+    pub rate: R,
 }
 
-// Out of the child that has both terminals by an end of the seam, through the other child, and back by the other end.
-fn round_rate<R: Rate>(
-    areas: Areas<'_, R>,
-    seam: Seam,
-    part: RoutePart,
-    first: bool,
-    low: bool,
-) -> R
-    ensures { (n : ℕ) (m : LaneMap R.Member) (best : ℕ → ℕ → ℕ → R.Member) → AtSeam R.kind n m areas.entry.sides.now areas.entry.pieces.now (map R.means areas.entry.lanes.now) (map R.means areas.entry.sheets.now) best seam.piece seam.low seam.high → Touching n areas.entry.sides.now areas.entry.pieces.now seam.piece first part.from → Touching n areas.entry.sides.now areas.entry.pieces.now seam.piece first part.to → R.means result ≡ round_rate R.kind best seam.piece seam.low seam.high part.from part.to first low }
-{
-    let near = seam.end(low);
-    let far = seam.end(!low);
-    let out = child_rate(areas, seam, first, part.from, near);
-    let across = child_rate(areas, seam, !first, near, far);
-    let back = child_rate(areas, seam, first, far, part.to);
-    out.join(across).join(back)
+// A part of a cut piece at its seam, and the child that it starts in.
+#[derive(Clone, Copy)]
+pub struct SeamPart<'a, R> {
+    pub areas: Areas<'a, R>,
+    pub seam: Seam,
+    pub child: Child,
+    pub part: RoutePart,
 }
 
-// From one child to the other by an end of the seam.
-fn across_rate<R: Rate>(
-    areas: Areas<'_, R>,
-    seam: Seam,
-    part: RoutePart,
-    first: bool,
-    low: bool,
-) -> R
-    ensures { (n : ℕ) (m : LaneMap R.Member) (best : ℕ → ℕ → ℕ → R.Member) → AtSeam R.kind n m areas.entry.sides.now areas.entry.pieces.now (map R.means areas.entry.lanes.now) (map R.means areas.entry.sheets.now) best seam.piece seam.low seam.high → Touching n areas.entry.sides.now areas.entry.pieces.now seam.piece first part.from → Touching n areas.entry.sides.now areas.entry.pieces.now seam.piece (not first) part.to → R.means result ≡ across_rate R.kind best seam.piece seam.low seam.high part.from part.to first low }
+// The best rate of a part.
+fn part_rate<R: Rate>(areas: Areas<'_, R>, part: RoutePart) -> R
+    ensures { (plan : RatedPlan R.kind R.means areas.entry) → PartTouches plan (part_of part) → PartRate R.kind plan.best (part_of part) (R.means result) }
 {
-    let end = seam.end(low);
-    let out = child_rate(areas, seam, first, part.from, end);
-    let on = child_rate(areas, seam, !first, end, part.to);
-    out.join(on)
+    best_within(areas, part.piece, part.from, part.to)
 }
 
-// A part of a child.
-fn part_in(seam: Seam, first: bool, from: u16, to: u16) -> RoutePart
-    ensures { result ≡ record { piece = child seam.piece first; from = from; to = to } }
+// The first way, unless the second is better.
+fn better_way<R: Rate>(first: Way<R>, second: Way<R>) -> Way<R>
+    ensures { result ≡ (if R.kind.better (R.means second.rate) (R.means first.rate) then second else first) }
 {
-    RoutePart {
-        piece: seam.child(first),
-        from,
-        to,
-    }
-}
-
-// The part that stays in the child; the other two count for nothing.
-fn stay_parts(seam: Seam, part: RoutePart, first: bool) -> Parts
-    ensures { result ≡ record { first = record { piece = child seam.piece first; from = part.from; to = part.to }; second = record { piece = child seam.piece first; from = part.to; to = part.to }; third = record { piece = child seam.piece first; from = part.to; to = part.to } } }
-{
-    let end = part_in(seam, first, part.to, part.to);
-    Parts {
-        first: part_in(seam, first, part.from, part.to),
-        second: end,
-        third: end,
-    }
-}
-
-// The three parts round by the other child.
-fn round_parts(seam: Seam, part: RoutePart, first: bool, low: bool) -> Parts
-    ensures { result ≡ record { first = record { piece = child seam.piece first; from = part.from; to = seam_ends seam.low seam.high low }; second = record { piece = child seam.piece (not first); from = seam_ends seam.low seam.high low; to = seam_ends seam.low seam.high (not low) }; third = record { piece = child seam.piece first; from = seam_ends seam.low seam.high (not low); to = part.to } } }
-{
-    let near = seam.end(low);
-    let far = seam.end(!low);
-    Parts {
-        first: part_in(seam, first, part.from, near),
-        second: part_in(seam, !first, near, far),
-        third: part_in(seam, first, far, part.to),
-    }
-}
-
-// The two parts from one child to the other; the third counts for nothing.
-fn across_parts(seam: Seam, part: RoutePart, first: bool, low: bool) -> Parts
-    ensures { result ≡ record { first = record { piece = child seam.piece first; from = part.from; to = seam_ends seam.low seam.high low }; second = record { piece = child seam.piece (not first); from = seam_ends seam.low seam.high low; to = part.to }; third = record { piece = child seam.piece first; from = part.to; to = part.to } } }
-{
-    let end = seam.end(low);
-    Parts {
-        first: part_in(seam, first, part.from, end),
-        second: part_in(seam, !first, end, part.to),
-        third: part_in(seam, first, part.to, part.to),
-    }
-}
-
-// Both terminals lie in one child: one part within it, unless going round by the other child is better.
-fn split_together<R: Rate>(areas: Areas<'_, R>, seam: Seam, part: RoutePart, first: bool) -> Parts
-    ensures { (n : ℕ) (m : LaneMap R.Member) (best : ℕ → ℕ → ℕ → R.Member) → AtSeam R.kind n m areas.entry.sides.now areas.entry.pieces.now (map R.means areas.entry.lanes.now) (map R.means areas.entry.sheets.now) best seam.piece seam.low seam.high → Touching n areas.entry.sides.now areas.entry.pieces.now seam.piece first part.from → Touching n areas.entry.sides.now areas.entry.pieces.now seam.piece first part.to → kept_all result [] ≡ split_together R.kind best seam.piece seam.low seam.high part.from part.to first }
-{
-    let by_low = round_rate(areas, seam, part, first, true);
-    let by_high = round_rate(areas, seam, part, first, false);
-    let high_better = by_high.better(by_low);
-    let round = if high_better { by_high } else { by_low };
-    if round.better(child_rate(areas, seam, first, part.from, part.to)) {
-        round_parts(seam, part, first, !high_better)
+    if second.rate.better(first.rate) {
+        second
     } else {
-        stay_parts(seam, part, first)
+        first
     }
 }
 
-// The terminals lie in different children: by the seam's low end, unless by the high end is better.
-fn split_across<R: Rate>(areas: Areas<'_, R>, seam: Seam, part: RoutePart, first: bool) -> Parts
-    ensures { (n : ℕ) (m : LaneMap R.Member) (best : ℕ → ℕ → ℕ → R.Member) → AtSeam R.kind n m areas.entry.sides.now areas.entry.pieces.now (map R.means areas.entry.lanes.now) (map R.means areas.entry.sheets.now) best seam.piece seam.low seam.high → Touching n areas.entry.sides.now areas.entry.pieces.now seam.piece first part.from → Touching n areas.entry.sides.now areas.entry.pieces.now seam.piece (not first) part.to → kept_all result [] ≡ split_across R.kind best seam.piece seam.low seam.high part.from part.to first }
-{
-    let by_low = across_rate(areas, seam, part, first, true);
-    let by_high = across_rate(areas, seam, part, first, false);
-    across_parts(seam, part, first, !by_high.better(by_low))
+impl Seam {
+    // A part of a child.
+    fn part_in(self, which: Child, from: u16, to: u16) -> RoutePart
+        ensures { result ≡ record { piece = child self.piece (is_first which); from = from; to = to } }
+    {
+        RoutePart {
+            piece: self.child(which),
+            from,
+            to,
+        }
+    }
+}
+
+impl<R: Rate> SeamPart<'_, R> {
+    // Both terminals lie in the child: within it.
+    fn within(self) -> Way<R>
+        ensures { (plan : RatedPlan R.kind R.means self.entry.areas) → BothInChild self.entry plan → Within self.entry plan result }
+    {
+        let only = self.seam.part_in(self.child, self.part.from, self.part.to);
+        Way {
+            parts: Parts::Within(only),
+            rate: part_rate(self.areas, only),
+        }
+    }
+
+    // Both terminals lie in the child: out of it by an end of the seam, through the other child, and back by the other end.
+    fn round(self, end: End) -> Way<R>
+        ensures { (plan : RatedPlan R.kind R.means self.entry.areas) → BothInChild self.entry plan → Round self.entry plan (is_low end) result }
+    {
+        let near = self.seam.end(end);
+        let far = self.seam.end(end.other());
+        let out = self.seam.part_in(self.child, self.part.from, near);
+        let across = self.seam.part_in(self.child.other(), near, far);
+        let back = self.seam.part_in(self.child, far, self.part.to);
+        let rate = part_rate(self.areas, out).join(part_rate(self.areas, across));
+        Way {
+            parts: Parts::Round(out, across, back),
+            rate: rate.join(part_rate(self.areas, back)),
+        }
+    }
+
+    // The terminals lie in different children: from one to the other by an end of the seam.
+    fn across(self, end: End) -> Way<R>
+        ensures { (plan : RatedPlan R.kind R.means self.entry.areas) → EndsApart self.entry plan → Across self.entry plan (is_low end) result }
+    {
+        let end = self.seam.end(end);
+        let first = self.seam.part_in(self.child, self.part.from, end);
+        let last = self.seam.part_in(self.child.other(), end, self.part.to);
+        Way {
+            parts: Parts::Across(first, last),
+            rate: part_rate(self.areas, first).join(part_rate(self.areas, last)),
+        }
+    }
+
+    // Both terminals lie in the child: within it, unless going round by the other child is better.
+    fn split_together(self) -> Parts
+        ensures { (plan : RatedPlan R.kind R.means self.entry.areas) → BothInChild self.entry plan → kept_all result [] ≡ split_together R.kind plan.best self.entry.seam.piece self.entry.seam.low self.entry.seam.high self.entry.part.from self.entry.part.to (is_first self.entry.child) }
+    {
+        let round = better_way(self.round(End::Low), self.round(End::High));
+        better_way(self.within(), round).parts
+    }
+
+    // The terminals lie in different children: by the seam's low end, unless by the high end is better.
+    fn split_across(self) -> Parts
+        ensures { (plan : RatedPlan R.kind R.means self.entry.areas) → EndsApart self.entry plan → kept_all result [] ≡ split_across R.kind plan.best self.entry.seam.piece self.entry.seam.low self.entry.seam.high self.entry.part.from self.entry.part.to (is_first self.entry.child) }
+    {
+        better_way(self.across(End::Low), self.across(End::High)).parts
+    }
 }
 
 // The parts that a part of a cut piece is split into.
 pub(crate) fn split<R: Rate>(areas: Areas<'_, R>, seam: Seam, part: RoutePart) -> Parts
-    ensures { (n : ℕ) (m : LaneMap R.Member) (best : ℕ → ℕ → ℕ → R.Member) → AtSeam R.kind n m areas.entry.sides.now areas.entry.pieces.now (map R.means areas.entry.lanes.now) (map R.means areas.entry.sheets.now) best seam.piece seam.low seam.high → Touches n (ends_of areas.entry.sides.now) seam.piece part.from → Touches n (ends_of areas.entry.sides.now) seam.piece part.to → kept_all result [] ≡ split_at R.kind best seam.piece seam.low seam.high part.from part.to }
+    ensures { (plan : RatedPlan R.kind R.means areas.entry) → IsSeamOf plan seam → TouchesSeam plan seam part.from → TouchesSeam plan seam part.to → kept_all result [] ≡ split_at R.kind plan.best seam.piece seam.low seam.high part.from part.to }
 {
-    let first = seam.home(part.from, part.to);
-    if seam.together(part.from, part.to) {
-        split_together(areas, seam, part, first)
-    } else {
-        split_across(areas, seam, part, first)
+    match seam.lie(part.from, part.to) {
+        Lie::Together(child) => SeamPart {
+            areas,
+            seam,
+            child,
+            part,
+        }
+        .split_together(),
+        Lie::Apart(child) => SeamPart {
+            areas,
+            seam,
+            child,
+            part,
+        }
+        .split_across(),
     }
 }

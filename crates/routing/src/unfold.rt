@@ -1,11 +1,10 @@
 // The unfolding: parts are taken off the list, split or passed, until none waits.
-ghost use Rattle.std.specs.Prelude.{◌≡◌, ℕ, ◌+◌, ◌-◌, ◌*◌, ◌<◌, ◌≤◌, min, ◌∷◌, map, length, ◌≢◌};
+ghost use Rattle.std.specs.Prelude.{◌≡◌, ℕ, ◌+◌, ◌-◌, ◌*◌, ◌<◌, ◌≤◌, min, ◌∷◌, length, ◌≢◌, IsOk, IsOkAnd};
 ghost use Rattle.trips.specs.Trips.{BestRate, LaneMap};
-ghost use Rattle.pieces.specs.Sides.{ends_of};
-ghost use Rattle.piece_rates.specs.Changes.{InOrder};
-ghost use Rattle.unfolding.specs.Splitting.{Rated};
-ghost use Rattle.routing.specs.Turns.{TripWritten, UnderWay};
-ghost use Rattle.routing.specs.Waiting.{part_of, waiting};
+ghost use Rattle.quoting.specs.Areas.{PlanInOrder};
+ghost use Rattle.routing.specs.Splits.{RatedPlan};
+ghost use Rattle.routing.specs.Turns.{TripUnderWay, TripWritten};
+ghost use Rattle.routing.specs.Waiting.{part_of, parts_on, room_on};
 
 use crate::seam::Seam;
 use crate::split::split;
@@ -13,9 +12,9 @@ use crate::triangle::pass_triangle;
 use crate::waiting::{RoutePart, put, put_all};
 use quoting::Areas;
 use rates::kind::Rate;
-use sheets::{piece_at, side_at, triangle_on};
-use stack::Stack;
-use stops::pass;
+use sheets::triangle_on;
+use stack::{Full, Stack};
+use stops::Stops;
 
 // The most turns that unfolding takes: five for each of the 2n - 5 pieces of a plan of n terminals, of which there are at most 4,096.
 fn most_turns(n: usize) -> usize
@@ -29,47 +28,48 @@ fn unfold_next<R: Rate>(
     areas: Areas<'_, R>,
     part: RoutePart,
     todo: &mut Stack<'_, RoutePart>,
-    stops: &mut [u16],
-    count: usize,
-) -> usize
-    ensures turn { (n : ℕ) (m : LaneMap R.Member) (best : ℕ → ℕ → ℕ → R.Member) (s t : ℕ) (r : R.Member) (left : ℕ) → Rated R.kind n m areas.entry.sides.now areas.entry.pieces.now (map R.means areas.entry.lanes.now) (map R.means areas.entry.sheets.now) best → s < n → 84 ≤ length todo.old.items.now → UnderWay R.kind n m (ends_of areas.entry.sides.now) areas.entry.pieces.now (map R.means areas.entry.lanes.now) best s t r (left + 1) (part_of part ∷ waiting todo.old.len todo.old.items.now) stops.old count → UnderWay R.kind n m (ends_of areas.entry.sides.now) areas.entry.pieces.now (map R.means areas.entry.lanes.now) best s t r left (waiting todo.new.len todo.new.items.now) stops.new result }
-    ensures same { length todo.new.items.now ≡ length todo.old.items.now }
-    ensures held { todo.new.items.ghost_name ≡ todo.old.items.ghost_name }
+    stops: &mut Stops<'_>,
+) -> Result<(), Full>
+    ensures turn { (plan : RatedPlan R.kind R.means areas.entry) (s t : ℕ) (r : R.Member) (left : ℕ) → s < plan.n → 84 ≤ room_on todo.old → TripUnderWay plan s t r (left + 1) (part_of part ∷ parts_on todo.old) stops.old → IsOk result × TripUnderWay plan s t r left (parts_on todo.new) stops.new }
+    ensures same_room { room_on todo.new ≡ room_on todo.old }
+    ensures todo_held { todo.new.items.ghost_name ≡ todo.old.items.ghost_name }
+    ensures stops_held { stops.new.places.ghost_name ≡ stops.old.places.ghost_name }
 {
-    let piece = piece_at(areas.pieces, part.piece);
-    if piece.first == 0 {
-        let t = triangle_on(areas.sides, areas.lanes, piece.top);
-        return pass_triangle(t, part, stops, count);
+    let piece = areas.records.piece(part.piece);
+    if piece.is_single() {
+        let t = triangle_on(areas.records.sides, areas.lanes, piece.top);
+        pass_triangle(t, part, stops);
+        return Ok(());
     }
-    let side = side_at(areas.sides, piece.seam as u32);
+    let side = areas.records.side(piece.seam as u32);
     let seam = Seam {
         piece,
         low: side.low,
         high: side.high,
     };
     let parts = split(areas, seam, part);
-    put_all(todo, parts);
-    count
+    put_all(todo, parts)
 }
 
-// Writes the stops of a best trip, and says how many they are.
+// Writes the stops of a best trip, and says how many they are. The turns are counted, so that it ends on any areas.
 pub(crate) fn unfold_all<R: Rate>(
     areas: Areas<'_, R>,
     todo: &mut [RoutePart],
     from: u16,
     to: u16,
     stops: &mut [u16],
-) -> usize
-    ensures { (n : ℕ) (m : LaneMap R.Member) (r : R.Member) → areas.entry.n ≡ n → InOrder R.kind n m areas.entry.sides.now areas.entry.pieces.now (map R.means areas.entry.lanes.now) (map R.means areas.entry.sheets.now) → from < n → to < n → 84 ≤ length todo.old → n ≤ length stops.old → BestRate R.kind m from to r → (r ≢ R.kind.none) → TripWritten R.kind m from to r stops.new result }
+) -> Result<usize, Full>
+    ensures { (n : ℕ) (m : LaneMap R.Member) (r : R.Member) → areas.entry.n ≡ n → PlanInOrder R.kind R.means areas.entry n m → from < n → to < n → 84 ≤ length todo.old → n ≤ length stops.old → BestRate R.kind m from to r → (r ≢ R.kind.none) → IsOkAnd result (TripWritten R.kind m from to r stops.new) }
 {
     let mut list = Stack::new(todo);
-    put(&mut list, RoutePart { piece: 0, from, to });
-    let mut count = pass(stops, 0, from);
+    let mut passed = Stops::new(stops, 0);
+    passed.pass(from);
+    put(&mut list, RoutePart { piece: 0, from, to })?;
     for _ in 0..most_turns(areas.n) {
-        match list.pop() {
-            Some(part) => count = unfold_next(areas, part, &mut list, stops, count),
-            None => return count,
-        }
+        let Some(part) = list.pop() else {
+            return Ok(passed.count());
+        };
+        unfold_next(areas, part, &mut list, &mut passed)?;
     }
-    count
+    Ok(passed.count())
 }

@@ -2,7 +2,7 @@
 ghost use Rattle.std.specs.Prelude.{◌≡◌};
 ghost use Rattle.routing.specs.Waiting.{AllPut, Put};
 
-use stack::Stack;
+use stack::{Full, Stack};
 
 // A part of a trip: a best trip from one terminal to another over the lanes of a piece.
 #[derive(Clone, Copy)]
@@ -12,35 +12,43 @@ pub struct RoutePart {
     pub to: u16,
 }
 
-// Three parts, one after another. A part whose ends are the same counts for nothing.
+// The parts that a part of a cut piece is split into, one after another. One whose ends are the same counts for nothing.
 #[derive(Clone, Copy)]
-pub struct Parts {
-    pub first: RoutePart,
-    pub second: RoutePart,
-    pub third: RoutePart,
+pub enum Parts {
+    // Within one child.
+    Within(RoutePart),
+    // From one child to the other.
+    Across(RoutePart, RoutePart),
+    // Out of one child, through the other, and back.
+    Round(RoutePart, RoutePart, RoutePart),
 }
 
-// Puts a part on top of the list, unless its ends are the same. False where there is no room.
-pub(crate) fn put(todo: &mut Stack<'_, RoutePart>, part: RoutePart) -> bool
-    ensures put { Put result todo.old.len todo.old.items.now part todo.new.len todo.new.items.now }
+// Puts a part on top of the list, unless its ends are the same.
+pub(crate) fn put(todo: &mut Stack<'_, RoutePart>, part: RoutePart) -> Result<(), Full>
+    ensures put { Put result todo.old part todo.new }
     ensures held { todo.new.items.ghost_name ≡ todo.old.items.ghost_name }
 {
     if part.from == part.to {
-        return true;
+        return Ok(());
     }
-    todo.push(part).is_ok()
+    todo.push(part)
 }
 
-// Puts three parts on the list, the first on top.
-pub(crate) fn put_all(todo: &mut Stack<'_, RoutePart>, parts: Parts) -> bool
-    ensures put { AllPut result todo.old.len todo.old.items.now parts todo.new.len todo.new.items.now }
+// Puts parts on the list, the first on top.
+pub(crate) fn put_all(todo: &mut Stack<'_, RoutePart>, parts: Parts) -> Result<(), Full>
+    ensures put { AllPut result todo.old parts todo.new }
     ensures held { todo.new.items.ghost_name ≡ todo.old.items.ghost_name }
 {
-    if !put(todo, parts.third) {
-        return false;
+    match parts {
+        Parts::Within(only) => put(todo, only),
+        Parts::Across(first, last) => {
+            put(todo, last)?;
+            put(todo, first)
+        }
+        Parts::Round(out, across, back) => {
+            put(todo, back)?;
+            put(todo, across)?;
+            put(todo, out)
+        }
     }
-    if !put(todo, parts.second) {
-        return false;
-    }
-    put(todo, parts.first)
 }

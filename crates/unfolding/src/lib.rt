@@ -2,53 +2,37 @@
 // down to single triangles. Each function's contract is a theorem that layers above cite.
 #![tactic(auto)]
 
-ghost use Rattle.unfolding.specs.Splitting.{BestWithinExists};
-ghost use Rattle.unfolding.specs.Splitting.{SplitKeepsTheRate};
-ghost use Rattle.unfolding.specs.Splitting.{LeafStopsAreBest};
-ghost use Rattle.unfolding.specs.Turns.{PartsUnfold};
-ghost use Rattle.unfolding.specs.Turns.{FewParts};
-ghost use Rattle.unfolding.specs.Turns.{TurnByTurn};
+ghost use Rattle.unfolding.specs.Splitting.{BestWithinExists, LeafStopsAreBest, SplitKeepsTheRate};
+ghost use Rattle.unfolding.specs.Turns.{FewParts, PartsUnfold, TurnByTurn};
 
 use rates::kind::Rate;
 
 // In a plan in order there is a best rate within each piece between any two of its terminals.
-pub fn best_within_exists<R: Rate>() -> u8
+pub fn best_within_exists<R: Rate>()
     ensures { BestWithinExists R.kind }
-{
-    0
-}
+{}
 
 // A part of a cut piece is split into at most three parts of its children; they follow on one another and have its rate.
-pub fn split_keeps_the_rate<R: Rate>() -> u8
+pub fn split_keeps_the_rate<R: Rate>()
     ensures { SplitKeepsTheRate R.kind }
-{
-    0
-}
+{}
 
 // Within one triangle the lane, or the two lanes by the third corner, have the part's rate.
-pub fn leaf_stops_are_best<R: Rate>() -> u8
+pub fn leaf_stops_are_best<R: Rate>()
     ensures { LeafStopsAreBest R.kind }
-{
-    0
-}
+{}
 
 // A part unfolds in one way, to the stops of a best trip.
-pub fn parts_unfold<R: Rate>() -> u8
+pub fn parts_unfold<R: Rate>()
     ensures { PartsUnfold R.kind }
-{
-    0
-}
+{}
 
 // A part unfolds in at most five turns for each piece of the plan.
-pub fn few_parts<R: Rate>() -> u8
+pub fn few_parts<R: Rate>()
     ensures { FewParts R.kind }
-{
-    0
-}
+{}
 
 // What one turn of unfolding takes away and leaves.
-pub fn turn_by_turn<R: Rate>() -> u8
+pub fn turn_by_turn<R: Rate>()
     ensures { TurnByTurn R.kind }
-{
-    0
-}
+{}

@@ -1,4 +1,4 @@
-use Rattle.std.proofs.Common.{◌≡◌, get_or, sym, subst, rules}
+use Rattle.std.proofs.Common.{◌≡◌, get_or, sym, subst}
 use Rattle.ring.specs.declared.Side.{Side}
 use Rattle.pieces.specs.Division.{LeafMarked}
 use Rattle.pieces.specs.Sides.{no_side, span}

@@ -1,36 +1,26 @@
 use Rattle.std.proofs.Common.{map, refl}
-use Rattle.routing.specs.Waiting.{part_of, waiting}
+use Rattle.std.proofs.lemmas.Bool.{both_ways}
+use Rattle.routing.specs.Waiting.{part_of, parts_on}
 use Rattle.routing.proofs.Running.{triangle_turn, seam_turn}
 use Rattle.routing.proofs.unfold.unfold_next.Goals as goal
 
-pub returns-then-piece-eq0 : goal.returns-then-piece-eq0
-returns-then-piece-eq0 g c =
+pub returns-then-is_single-clause-turn : goal.returns-then-is_single-clause-turn
+returns-then-is_single-clause-turn g c plan s t r left below room h =
     let means = g.R.Rate.means in
-    let a = c.args.areas in
-    let k = c.args.todo.now.len in
-    let items = c.args.todo.now.items.now in
-    let T = c.triangle_on-t.result in
-    record {
-      turn = λ n m best s t r left rated below room h.
-          triangle_turn g.R.Rate.kind g.met.R.Rate.laws n m a.sides.now a.pieces.now (map means a.lanes.now) (map means a.sheets.now) best rated s t r below
-          (part_of c.args.part) (waiting k items) left c.args.stops.now c.args.count c.piece_at-piece.result c.piece_at-piece.ensures c.if-piece-eq0.true
-          T.low T.third T.high (means T.left.up) (means T.left.down) (means T.right.up) (means T.right.down) (means T.base.up) (means T.base.down) c.triangle_on-t.ensures
-          c.pass_triangle.result c.pass_triangle.new.stops c.pass_triangle.ensures h;
-      same = refl;
-      held = refl;
-    }
+    let a = c.args.areas in (
+      refl,
+      triangle_turn g.R.Rate.kind g.met.R.Rate.laws plan.n plan.lanes a.records.sides.now a.records.pieces.now (map means a.lanes.now) (map means a.sheets.now)
+          plan.best plan.rated s t r below means (part_of c.args.part) (parts_on c.args.todo.now) left c.args.stops.now
+          c.piece-piece.result c.piece-piece.ensures (c.is_single.ensures.0 c.if-is_single.true) c.triangle_on-t.result c.triangle_on-t.ensures
+          c.pass_triangle.new.stops c.pass_triangle.ensures.passed h,
+    )
 
-pub returns : goal.returns
-returns g c =
+pub returns-clause-turn : goal.returns-clause-turn
+returns-clause-turn g c plan s t r left below room h =
     let means = g.R.Rate.means in
     let a = c.args.areas in
-    let k = c.args.todo.now.len in
-    let items = c.args.todo.now.items.now in
-    record {
-      turn = λ n m best s t r left rated below room h.
-          seam_turn g.R.Rate.kind g.met.R.Rate.laws n m a.sides.now a.pieces.now (map means a.lanes.now) (map means a.sheets.now) best rated s t r below
-          c.args.part k items left c.args.stops.now c.args.count c.piece_at-piece.result c.side_at-side.result c.piece_at-piece.ensures c.if-piece-eq0.false
-          c.side_at-side.ensures room c.split-parts.result (c.split-parts.ensures n m best) c.put_all.result c.put_all.new.todo.len c.put_all.new.todo.items.now c.put_all.ensures.put h;
-      same = c.put_all.ensures.put.same_length;
-      held = c.put_all.ensures.held;
-    }
+    let stops = c.args.stops.now in
+    seam_turn g.R.Rate.kind g.met.R.Rate.laws plan.n plan.lanes a.records.sides.now a.records.pieces.now (map means a.lanes.now) (map means a.sheets.now)
+    plan.best plan.rated s t r below c.args.part c.args.todo.now left stops.places.now stops.count
+    c.piece-piece.result c.side-side.result c.piece-piece.ensures (λ z. both_ways c.is_single.result c.if-is_single.false (c.is_single.ensures.1 z)) c.side-side.ensures room
+    c.split-parts.result (c.split-parts.ensures plan) c.put_all.result c.put_all.new.todo c.put_all.ensures.put h
