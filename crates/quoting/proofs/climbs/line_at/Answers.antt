@@ -1,4 +1,4 @@
-use Rattle.quoting.proofs.lines.line_at.Goals as goal
+use Rattle.quoting.proofs.climbs.line_at.Goals as goal
 
 pub returns : goal.returns
 returns g c n m h l t =
