@@ -1,17 +1,19 @@
 -- In a plan in order, lines climb from a piece to its parent and meet there.
 -- Assumes the laws of the kind.
-use Rattle.std.proofs.Common.{ℕ, ◌+◌, ◌*◌, ◌<◌, Bool, true, false, eqb, List, drop, sym, subst, ⊎_elim, arith, length-take}
+use Rattle.std.proofs.Common.{ℕ, ◌+◌, ◌*◌, ◌<◌, Bool, true, false, eqb, ◌⊎◌, List, drop, sym, subst, inl, inr, ⊎_elim, arith, length-take}
 use Rattle.std.proofs.lemmas.Bool.{cond-true, cond-false, eq-eqb, ne_eqb}
 use Rattle.rates.specs.Kinds.{Kind, Laws}
 use Rattle.rates.specs.Many.{better_of}
 use Rattle.trips.specs.Trips.{LaneMap, BestRate}
 use Rattle.ring.specs.declared.Side.{Side}
 use Rattle.records.specs.declared.Piece.{Piece}
+use Rattle.records.specs.Few.{Among}
 use Rattle.pieces.specs.Sides.{Ends, ends_of}
 use Rattle.pieces.specs.Holding.{piece_at}
 use Rattle.pieces.proofs.Holders.{UnderCut, under_cut}
 use Rattle.piece_rates.specs.Sheets.{sheet_of}
 use Rattle.piece_rates.specs.Sizes.{Within}
+use Rattle.piece_rates.specs.Climbing.{CutShape}
 use Rattle.piece_rates.specs.Parents.{PartsShown}
 use Rattle.piece_rates.specs.Changes.{InOrder}
 use Rattle.piece_rates.specs.Touching.{Touches}
@@ -19,7 +21,7 @@ use Rattle.piece_rates.proofs.Cuts.{cuts_have_shape}
 use Rattle.piece_rates.proofs.Sizes.{shown_is_within}
 use Rattle.piece_rates.proofs.Touching.{touch_first, touch_second}
 use Rattle.climbing.specs.Lines.{OnSide, LineShows, ClimbedLine, by_column}
-use Rattle.climbing.specs.Steps.{across_of, edges_of, lanes_of, StepKeeps, StepsKeep}
+use Rattle.climbing.specs.Steps.{across_of, edges_of, BothEdges, lanes_of, StepKeeps, StepsKeep}
 use Rattle.climbing.proofs.Lines.{lines_climb, lines_meet}
 
 module _ {M : Type 0} (K : Kind M) (X : Laws K) (n : ℕ) (m : LaneMap M) (sides : List Side) (ps : List Piece) (area sheets : List M) (h : InOrder K n m sides ps area sheets) where
@@ -62,6 +64,9 @@ module _ {M : Type 0} (K : Kind M) (X : Laws K) (n : ℕ) (m : LaneMap M) (sides
         (λ f. subst (Q p) (sym (cond-false (eqb P.first p) P.second P.first (ne_eqb P.first p (λ k. omega (arith, k, f, under.cut.in_order))))) (subst (λ w. Q w P.first) f b))
         under.which
 
+    shape : CutShape n e (e.low P.seam) (e.high P.seam) P (piece_at ps P.first) (piece_at ps P.second)
+    shape = shown.shape
+
     from_first : (u : ℕ) → Touches n e (piece_at ps P.first) u → OnSide true (e.low P.seam) (e.high P.seam) u
     from_first u t = touch_first n e h.stands.filled ps h.stands.division q range under.cut u t
 
@@ -97,6 +102,12 @@ module _ {M : Type 0} (K : Kind M) (X : Laws K) (n : ℕ) (m : LaneMap M) (sides
       own_within = sheet_within p r;
       across_within = by_part (λ own across. Within K (sheet_of K sheets across)) (sheet_within P.second under.cut.in_range) (sheet_within P.first first_range);
       across_in_range = by_part (λ own across. across + 5 < 2 * n) under.cut.in_range first_range;
+      stands = record {
+        own = by_part (λ own across. BothEdges ps own (e.low P.seam) (e.high P.seam)) shape.seam_first shape.seam_second;
+        across = by_part (λ own across. BothEdges ps across (e.low P.seam) (e.high P.seam)) shape.seam_second shape.seam_first;
+      };
+      edges_kept = by_part (λ own across. (u : ℕ) → Among u (edges_of ps q) → Among u (edges_of ps own) ⊎ Among u (edges_of ps across)) shape.edges_kept
+          (λ u k. ⊎_elim (λ w. inr w) (λ w. inl w) (shape.edges_kept u k));
       climbs = by_part Climbs
           (λ into u line line' t k w. lines_climb K X n e m P A B _ _ _ _ shown true into u line line' (from_first u t) k w)
           (λ into u line line' t k w. lines_climb K X n e m P A B _ _ _ _ shown false into u line line' (from_second u t) k w);

@@ -1,12 +1,12 @@
 -- Lines of a plan in order, from a piece to its parent.
 -- Assumes the terms of `Lines` and `Changes`.
-use Rattle.std.specs.Prelude.{◌≡◌, ℕ, ◌+◌, ◌*◌, ◌<◌, Bool, true, false, cond, List, ◌==◌, ◌≢◌}
+use Rattle.std.specs.Prelude.{◌≡◌, ℕ, ◌+◌, ◌*◌, ◌<◌, Bool, true, false, cond, ◌⊎◌, List, ◌==◌, ◌≢◌}
 use Rattle.rates.specs.Kinds.{Kind}
 use Rattle.rates.specs.Many.{better_of}
 use Rattle.trips.specs.Trips.{LaneMap, BestRate}
 use Rattle.ring.specs.declared.Side.{Side}
 use Rattle.records.specs.declared.Piece.{Piece}
-use Rattle.records.specs.Few.{listed}
+use Rattle.records.specs.Few.{listed, Among}
 use Rattle.pieces.specs.Sides.{Ends, ends_of, Filled}
 use Rattle.pieces.specs.Holding.{piece_at}
 use Rattle.pieces.specs.Division.{Division}
@@ -28,6 +28,15 @@ seam_of_piece ps p = (piece_at ps (piece_at ps p).parent).seam
 
 abbrev pub edges_of : List Piece → ℕ → List ℕ
 edges_of ps p = listed (piece_at ps p).edges
+
+-- x and y are edge terminals of the piece p
+abbrev pub BothEdges : List Piece → ℕ → ℕ → ℕ → Type 0
+BothEdges ps p x y = Among x (edges_of ps p) × Among y (edges_of ps p)
+
+-- the ends of the seam that made p are edge terminals of p and of the piece on its other side
+pub record SeamStands (e : Ends) (ps : List Piece) (p : ℕ) : Type 0 where
+  pub own : BothEdges ps p (e.low (seam_of_piece ps p)) (e.high (seam_of_piece ps p))
+  pub across : BothEdges ps (across_of ps p) (e.low (seam_of_piece ps p)) (e.high (seam_of_piece ps p))
 
 -- p has the two children own, which touches u, and across, which touches v
 pub record PartedAt (n : ℕ) (e : Ends) (ps : List Piece) (p u v own across : ℕ) : Type 0 where
@@ -68,6 +77,8 @@ module _ {M : Type 0} (K : Kind M) where
     pub own_within : Within K (sheet_of K sheets p)
     pub across_within : Within K (sheet_of K sheets (across_of ps p))
     pub across_in_range : across_of ps p + 5 < 2 * n
+    pub stands : SeamStands e ps p
+    pub edges_kept : (u : ℕ) → Among u (edges_of ps (piece_at ps p).parent) → Among u (edges_of ps p) ⊎ Among u (edges_of ps (across_of ps p))
     pub climbs : (into : Bool) (u : ℕ) (line line' : List M) → Touches n e (piece_at ps p) u → LineShows K n e (piece_at ps p) m into u line → ClimbedFrom e ps sheets p into line line'
         → LineShows K n e (piece_at ps (piece_at ps p).parent) m into u line'
     pub same_side : (u v : ℕ) (row column : List M) (direct : M) → Touches n e (piece_at ps p) u → Touches n e (piece_at ps p) v

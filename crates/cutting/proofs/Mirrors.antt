@@ -1,8 +1,7 @@
 -- Single steps of the cutting functions, on plain values.
 -- Assumes nothing.
-use Rattle.std.proofs.Common.{◌≡◌, ℕ, zero, suc, ◌+◌, ◌<◌, ◌≤◌, ltb, List, length, get_or, take, fold, sym, refl, ap, ◌∙◌, arith}
-use Rattle.std.proofs.lemmas.List.{take_all}
-use Rattle.std.proofs.lemmas.List.Sums.{fold_more}
+use Rattle.std.proofs.Common.{◌≡◌, ℕ, zero, suc, ◌+◌, ◌<◌, ◌≤◌, Bool, true, false, cond, ltb, List, [], ◌∷◌, length, filter, sum_by, sym, refl, ap, ◌∙◌, arith}
+use Rattle.std.proofs.lemmas.List.Sums.{sum_by-cons, length-filter, count_by-le-length}
 use Rattle.std.proofs.lemmas.Bool.{cond-true, cond-false, lt-ltb, le-ltb}
 use Rattle.pieces.specs.Cuts.{left, right, heavier, descend}
 
@@ -31,11 +30,16 @@ module _ (len w : ℕ → ℕ) (most v : ℕ) where
   unfolding descend
   descend_none = refl
 
--- one more turn of a loop that folds a list
-pub fold_turn : {A : Type 0} (g : A → ℕ → A) (start now next : A) (xs : List ℕ) (k x : ℕ) → k < length xs → now ≡ fold g start (take k xs) → x ≡ get_or xs k 0 → next ≡ g now x → next ≡ fold g start (take (k + 1) xs)
-fold_turn g start now next xs k x l e f h =
-    h ∙ ap (g now) f ∙ ap (λ a. g a (get_or xs k 0)) e ∙ sym (fold_more g start xs k 0 l)
+-- a sum over the numbers that pass a test
+pub sum_by-filter : (w : ℕ → ℕ) (p : ℕ → Bool) (xs : List ℕ) → sum_by w (filter p xs) ≡ sum_by (λ x. cond (p x) (w x) 0) xs
+sum_by-filter w p [] = refl
+sum_by-filter w p (x ∷ xs) =
+    first (p x) ∙ ap (λ n. cond (p x) (w x) 0 + n) (sum_by-filter w p xs) ∙ sym (sum_by-cons (λ y. cond (p y) (w y) 0) x xs)
+  where
+    first : (b : Bool) → sum_by w (cond b (x ∷ filter p xs) (filter p xs)) ≡ cond b (w x) 0 + sum_by w (filter p xs)
+    first true = sum_by-cons w x (filter p xs)
+    first false = omega arith
 
--- the loop's end
-pub fold_end : {A : Type 0} (g : A → ℕ → A) (start now : A) (xs : List ℕ) (k : ℕ) → length xs ≤ k → now ≡ fold g start (take k xs) → now ≡ fold g start xs
-fold_end g start now xs k l e = e ∙ ap (fold g start) (take_all k xs l)
+-- no more numbers pass a test than there are
+pub length-filter-le : (p : ℕ → Bool) (xs : List ℕ) → length (filter p xs) ≤ length xs
+length-filter-le p xs = let e = length-filter p xs in let l = count_by-le-length p xs in omega arith

@@ -1,51 +1,24 @@
 // The two parts of a cut, and the finished record of a piece.
-ghost use Rattle.std.specs.Prelude.{◌≡◌, if◌then◌else◌, fold};
-ghost use Rattle.cutting.specs.Places.{passes};
+ghost use Rattle.std.specs.Prelude.{◌≡◌, ℕ, Bool, fold};
+ghost use Rattle.cutting.specs.Calls.{Computes};
 ghost use Rattle.pieces.specs.Cuts.{around as around_side, chosen as chosen_by, first_part, fresh as fresh_piece, inner_holes, outer_holes, parted as parted_record, rim as rim_of, second_part, single as single_record, whole as whole_plan};
 ghost use Rattle.pieces.specs.Sides.{ends_of, lengths};
-ghost use Rattle.records.specs.Few.{added, listed};
+ghost use Rattle.records.specs.Few.{listed};
 
 use crate::sides::{high_end, length_of, lies_within, low_end, narrow};
 use records::{Few, Piece};
 use ring::Side;
 
-// Where a hole stands as seen from a seam.
-#[derive(Clone, Copy)]
-enum Place {
-    Before,
-    Below,
-    Behind,
-}
-
-// Whether a hole stands at that place of the seam v.
-fn stands(sides: &[Side], place: Place, v: u16, hole: u16) -> bool
-    ensures { result ≡ passes (lengths sides.now) place v hole }
-{
-    match place {
-        Place::Before => hole < v,
-        Place::Below => lies_within(sides, v, hole),
-        Place::Behind => v as usize + 2 * length_of(sides, v) as usize <= hole as usize + 1,
-    }
-}
-
-// The hole behind those in `to`, if it stands at that place of the seam v.
-fn choose(sides: &[Side], place: Place, v: u16, to: Few, hole: u16) -> Few
-    ensures { result ≡ (if passes (lengths sides.now) place v hole then added to hole else to) }
-{
-    if stands(sides, place, v, hole) {
-        to.push(hole)
-    } else {
-        to
-    }
-}
-
-// The holes that stand at a place of the seam v, put behind those in `to`.
-fn chosen(sides: &[Side], place: Place, v: u16, to: Few, holes: Few) -> Few
-    ensures { result ≡ chosen_by (passes (lengths sides.now) place v) to (listed holes) }
+// The holes that stand where they are asked for, put behind those in `to`.
+fn chosen<F: Fn(u16) -> bool>(to: Few, holes: Few, stands: F) -> Few
+    requires { F.IsAlwaysCallable stands }
+    ensures { (test : ℕ → Bool) → Computes (F.post stands) test → result ≡ chosen_by test to (listed holes) }
 {
     let mut to = to;
-    for k in 0..holes.len() {
-        to = choose(sides, place, v, to, holes.get(k));
+    for &hole in holes.as_slice() {
+        if stands(hole) {
+            to = to.push(hole);
+        }
     }
     to
 }
@@ -54,15 +27,16 @@ fn chosen(sides: &[Side], place: Place, v: u16, to: Few, holes: Few) -> Few
 fn inner_holes(sides: &[Side], v: u16, holes: Few) -> Few
     ensures { result ≡ inner_holes (lengths sides.now) v holes }
 {
-    chosen(sides, Place::Below, v, Few::none(), holes)
+    chosen(Few::none(), holes, |hole| lies_within(sides, v, hole))
 }
 
 // The holes that are not below the seam v, and v, in the order of their indices.
 fn outer_holes(sides: &[Side], v: u16, holes: Few) -> Few
     ensures { result ≡ outer_holes (lengths sides.now) v holes }
 {
-    let before = chosen(sides, Place::Before, v, Few::none(), holes);
-    chosen(sides, Place::Behind, v, before.push(v), holes)
+    let end = v as usize + 2 * length_of(sides, v) as usize;
+    let before = chosen(Few::none(), holes, |hole| hole < v);
+    chosen(before.push(v), holes, |hole| end <= hole as usize + 1)
 }
 
 // A piece that is still to be cut.
@@ -117,11 +91,10 @@ fn around(sides: &[Side], edges: Few, h: u16) -> Few
 fn around_holes(sides: &[Side], edges: Few, holes: Few) -> Few
     ensures { result ≡ fold (around_side (ends_of sides.now)) edges (listed holes) }
 {
-    let mut edges = edges;
-    for k in 0..holes.len() {
-        edges = around(sides, edges, holes.get(k));
-    }
-    edges
+    holes
+        .as_slice()
+        .iter()
+        .fold(edges, |edges, &hole| around(sides, edges, hole))
 }
 
 // The ends of the bounding seams in rising order.
@@ -140,14 +113,11 @@ pub fn single(sides: &[Side], uncut: Piece) -> Piece
     ensures { result ≡ single_record (ends_of sides.now) uncut }
 {
     Piece {
-        parent: uncut.parent,
         first: 0,
         second: 0,
         seam: 0,
-        top: uncut.top,
-        holes: uncut.holes,
         edges: rim(sides, uncut.top, uncut.holes),
-        level: uncut.level,
+        ..uncut
     }
 }
 
@@ -156,13 +126,10 @@ pub fn parted(sides: &[Side], p: u16, piece: Piece, v: u16, size: u16) -> Piece
     ensures { result ≡ parted_record (ends_of sides.now) p piece v size }
 {
     Piece {
-        parent: piece.parent,
         first: narrow(p as usize + 1),
         second: narrow(p as usize + 2 * size as usize),
         seam: v,
-        top: piece.top,
-        holes: piece.holes,
         edges: rim(sides, piece.top, piece.holes),
-        level: piece.level,
+        ..piece
     }
 }

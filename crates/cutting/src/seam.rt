@@ -1,11 +1,13 @@
 // The side along which a piece is cut.
-ghost use Rattle.std.specs.Prelude.{◌≡◌};
-ghost use Rattle.pieces.specs.Cuts.{descend as descend_to, four as four_seams, most as most_of, seam_of, weight as weight_of};
+ghost use Rattle.std.specs.Prelude.{◌≡◌, ℕ};
+ghost use Rattle.cutting.specs.Calls.{Computes};
+ghost use Rattle.pieces.specs.Cuts.{descend as descend_to, four as four_seams, seam_of};
 ghost use Rattle.pieces.specs.Sides.{lengths};
 ghost use Rattle.records.specs.Few.{listed};
+ghost use Rattle.records.specs.Limits.{share as share_of};
 
-use crate::sides::length_of;
-use crate::weights::{heavier, triangles, weight};
+use crate::sides::{left_of, length_of, right_of};
+use crate::weights::{holes_below, triangles};
 use records::Few;
 use ring::Side;
 
@@ -13,7 +15,7 @@ use ring::Side;
 const HOLES_BELOW: usize = 2;
 
 // Whether a piece has four bounding seams: its holes, and its top unless that is the side 0.
-pub fn four(top: u16, holes: Few) -> bool
+fn four(top: u16, holes: Few) -> bool
     ensures { result ≡ four_seams top (listed holes) }
 {
     let seams = if top == 0 {
@@ -24,26 +26,36 @@ pub fn four(top: u16, holes: Few) -> bool
     seams == 4
 }
 
-// The most weight that a cut leaves below its seam: two holes, or (2t+1) div 3 of t triangles.
-fn most(sides: &[Side], top: u16, holes: Few) -> usize
-    ensures { result ≡ most_of (lengths sides.now) top (listed holes) }
+// The most of t triangles that a cut by triangles leaves below the seam.
+fn share(t: u16) -> usize
+    ensures { result ≡ share_of t }
 {
-    if four(top, holes) {
-        return HOLES_BELOW;
-    }
-    (2 * triangles(sides, holes, top) as usize + 1) / 3
+    (2 * t as usize + 1) / 3
 }
 
 // From the side `from` down to the heavier child while the weight is above `most`, in at most `steps` steps.
-fn descend(sides: &[Side], holes: Few, by_holes: bool, most: usize, steps: u16, from: u16) -> u16
-    ensures { result ≡ descend_to (lengths sides.now) (weight_of (lengths sides.now) by_holes (listed holes)) most steps from }
+fn descend<F: Fn(u16) -> usize>(
+    sides: &[Side],
+    weight: F,
+    most: usize,
+    steps: u16,
+    from: u16,
+) -> u16
+    requires { F.IsAlwaysCallable weight }
+    ensures { (w : ℕ → ℕ) → Computes (F.post weight) w → result ≡ descend_to (lengths sides.now) w most steps from }
 {
     let mut v = from;
-    for i in 0..steps {
-        if weight(sides, holes, by_holes, v) <= most {
+    for _ in 0..steps {
+        if weight(v) <= most {
             return v;
         }
-        v = heavier(sides, holes, by_holes, v);
+        let left = left_of(v);
+        let right = right_of(sides, v);
+        v = if weight(left) < weight(right) {
+            right
+        } else {
+            left
+        };
     }
     v
 }
@@ -52,13 +64,22 @@ fn descend(sides: &[Side], holes: Few, by_holes: bool, most: usize, steps: u16, 
 pub fn seam_of(sides: &[Side], top: u16, holes: Few) -> u16
     ensures { result ≡ seam_of (lengths sides.now) top (listed holes) }
 {
-    let by_holes = four(top, holes);
+    let steps = length_of(sides, top);
+    if four(top, holes) {
+        return descend(
+            sides,
+            |v| holes_below(sides, holes, v),
+            HOLES_BELOW,
+            steps,
+            top,
+        );
+    }
+    let most = share(triangles(sides, holes, top));
     descend(
         sides,
-        holes,
-        by_holes,
-        most(sides, top, holes),
-        length_of(sides, top),
+        |v| triangles(sides, holes, v) as usize,
+        most,
+        steps,
         top,
     )
 }

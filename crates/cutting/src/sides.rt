@@ -9,20 +9,14 @@ use ring::Side;
 pub fn low_end(sides: &[Side], i: u16) -> u16
     ensures { result ≡ (ends_of sides.now).low i }
 {
-    if i as usize >= sides.len() {
-        return 0;
-    }
-    sides[i as usize].low
+    sides.get(i as usize).map_or(0, |side| side.low)
 }
 
 // The higher end of the side i; 0 past the last record.
 pub fn high_end(sides: &[Side], i: u16) -> u16
     ensures { result ≡ (ends_of sides.now).high i }
 {
-    if i as usize >= sides.len() {
-        return 0;
-    }
-    sides[i as usize].high
+    sides.get(i as usize).map_or(0, |side| side.high)
 }
 
 // How far apart the ends of the side i are.
@@ -44,7 +38,7 @@ pub fn lies_within(sides: &[Side], i: u16, j: u16) -> bool
 pub fn narrow(x: usize) -> u16
     ensures { result ≡ cap x }
 {
-    x.min(65535) as u16
+    u16::try_from(x).unwrap_or(u16::MAX)
 }
 
 // The left child of the side v.

@@ -1,6 +1,6 @@
 -- The areas' fronts: what holds of the first 2n - 3 sides holds of the area, and the rest is as it was.
 -- Assumes areas that are long enough.
-use Rattle.std.proofs.Common.{◌≡◌, ℕ, ◌-◌, ◌*◌, true, List, ◌++◌, map, length, get_or, take, drop, sym, refl, ap, ◌∙◌, subst, arith}
+use Rattle.std.proofs.Common.{◌≡◌, ℕ, ◌-◌, ◌*◌, Ok, Err, Result, IsOkUnless, List, ◌++◌, map, length, get_or, take, drop, sym, refl, ap, ◌∙◌, subst, arith}
 use Rattle.std.proofs.lemmas.List.{map-append, take-append-drop, drop_at, length-take-le, get_or_append_left}
 use Rattle.ring.specs.declared.Side.{Side}
 use Rattle.records.specs.declared.Piece.{Piece}
@@ -10,8 +10,10 @@ use Rattle.pieces.specs.Division.{Division, LeafMarked}
 use Rattle.pieces.proofs.Marking.{same_count}
 use Rattle.pieces.proofs.Standing.{divided}
 use Rattle.pieces.proofs.Leaves.{leaves}
+use Rattle.division.specs.declared.Undivided.{Undivided}
+use Rattle.division.specs.declared.Undivided.TheVariants.{Terminals, Short, NotFilled}
 use Rattle.division.specs.Turns.{Fitting}
-use Rattle.division.specs.Outcome.{front_ends, Lent, Kept, Divided, FrontDone}
+use Rattle.division.specs.Outcome.{front_ends, Lent, Kept, Divided, FrontDone, Outcome}
 
 module _ (n : ℕ) (ss : List Side) (ps ts : List Piece) (lent : Lent n ss ps ts) (k : ℕ) (is : k ≡ 2 * n - 3) (xs : List Side) (ps' : List Piece) where
   front_long : length (take k ss) ≡ k
@@ -25,17 +27,16 @@ module _ (n : ℕ) (ss : List Side) (ps ts : List Piece) (lent : Lent n ss ps ts
         pieces_past = past;
       }
 
-  pub fitting : Filled n (front_ends n ss) → Fitting n (ends_of (take k ss)) (2 * n - 5) ps ts
+  pub fitting : Filled n (front_ends n ss) → Fitting n (ends_of (take k ss)) (2 * n - 5) ts
   fitting fl =
       record {
         filled = subst (λ m. Filled n (ends_of (take m ss))) (sym is) fl;
         pieces = omega (arith, lent.least);
-        room = omega (arith, lent.pieces);
         list_room = lent.list;
       }
 
-  pub front_divided : Filled n (front_ends n ss) → SameSides (take k ss) xs → FrontDone (ends_of (take k ss)) (2 * n - 5) (take k ss) true xs ps' → Divided n (front_ends n ss) (xs ++ drop k ss) ps'
-  front_divided fl same d =
+  front_divided : (r : Result Unit Undivided) → Filled n (front_ends n ss) → SameSides (take k ss) xs → FrontDone (ends_of (take k ss)) (2 * n - 5) (take k ss) r xs ps' → Divided n (front_ends n ss) (xs ++ drop k ss) ps'
+  front_divided r fl same d =
       subst (λ m. Divided n (ends_of (take m ss)) (xs ++ drop k ss) ps') is
       (record {
         records = d.records;
@@ -51,3 +52,11 @@ module _ (n : ℕ) (ss : List Side) (ps ts : List Piece) (lent : Lent n ss ps ts
 
       dv : Division n (ends_of (take k ss)) ps'
       dv = divided n (ends_of (take k ss)) fk ps' d.records refl
+
+  -- what the call on the fronts leaves is what the whole call leaves
+  pub outcome : (r : Result Unit Undivided) → (Fitting n (ends_of (take k ss)) (2 * n - 5) ts → FrontDone (ends_of (take k ss)) (2 * n - 5) (take k ss) r xs ps') → IsOkUnless r NotFilled
+      → SameSides (take k ss) xs → drop (2 * n - 5) ps' ≡ drop (2 * n - 5) ps → Outcome n ss ps ts r (xs ++ drop k ss) ps'
+  outcome (Ok u) done only same past = (lent, λ fl. front_divided (Ok u) fl same (done (fitting fl)), kept same past)
+  outcome (Err Terminals) done only same past = cc
+  outcome (Err Short) done only same past = cc
+  outcome (Err NotFilled) done only same past = (lent, λ fl. let d = (done (fitting fl)).answer in cc, kept same past)

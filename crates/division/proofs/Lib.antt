@@ -1,3 +1,4 @@
 pub mod Turning
+pub mod Numbers
 pub mod Fronts
 pub mod OneResult

@@ -1,6 +1,6 @@
 -- What dividing a plan does: the refusals, what is left as it was, and the division.
 -- Assumes the terms of `pieces`; n is the number of terminals, and the sides are the first 2n - 3 of the side area.
-use Rattle.std.specs.Prelude.{◌≡◌, ℕ, ◌+◌, ◌-◌, ◌*◌, ◌<◌, ◌≤◌, Bool, true, ◌⊎◌, List, length, take, drop, Ok, Err, Result}
+use Rattle.std.specs.Prelude.{◌≡◌, ℕ, ◌+◌, ◌-◌, ◌*◌, ◌<◌, ◌≤◌, ◌⊎◌, List, length, take, drop, codes, Ok, Err, Result}
 use Rattle.ring.specs.declared.Side.{Side}
 use Rattle.records.specs.declared.Piece.{Piece}
 use Rattle.pieces.specs.Sides.{Ends, ends_of, span, Filled}
@@ -10,6 +10,12 @@ use Rattle.pieces.specs.Marks.{SameSides, mark_all}
 use Rattle.pieces.specs.Division.{Division, LeavesMarked}
 use Rattle.division.specs.declared.Undivided.{Undivided}
 use Rattle.division.specs.declared.Undivided.TheVariants.{Terminals, Short, NotFilled}
+
+-- a refusal in words
+abbrev pub reason : Undivided → List ℕ
+reason Terminals = codes "a ring has 3 to 4096 terminals"
+reason Short = codes "an area is too short"
+reason NotFilled = codes "the sides are no filled ring"
 
 -- the ends of the first 2n - 3 sides
 abbrev pub front_ends : ℕ → List Side → Ends
@@ -51,8 +57,8 @@ Outcome n ss ps ts (Err NotFilled) ss' ps' = Lent n ss ps ts × (Filled n (front
 Outcome n ss ps ts (Ok _) ss' ps' = Lent n ss ps ts × (Filled n (front_ends n ss) → Divided n (front_ends n ss) ss' ps') × Kept n ss ps ss' ps'
 
 -- the same for side and piece areas of just the needed lengths
-pub record FrontDone (e : Ends) (count : ℕ) (ss : List Side) (r : Bool) (ss' : List Side) (ps' : List Piece) : Type 0 where
-  pub answer : r ≡ true
+pub record FrontDone (e : Ends) (count : ℕ) (ss : List Side) (r : Result Unit Undivided) (ss' : List Side) (ps' : List Piece) : Type 0 where
+  pub answer : r ≡ Ok tt
   pub records : Records e 0 whole (take count ps')
   pub marks : ss' ≡ mark_all ss ps' count
 

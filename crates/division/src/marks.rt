@@ -1,36 +1,19 @@
 // Telling the sides their leaf pieces. Nothing but the field `leaf` is written.
-ghost use Rattle.std.specs.Prelude.{◌≡◌};
-ghost use Rattle.pieces.specs.Holding.{piece_at};
+ghost use Rattle.std.specs.Prelude.{◌≡◌, length, min};
 ghost use Rattle.pieces.specs.Marks.{mark_all, mark_one, mark_piece, mark_triangle, mark_unit};
 
-use cutting::{left_of, length_of, right_of, whole};
+use cutting::{left_of, length_of, right_of};
 use records::Piece;
 use ring::Side;
-
-// The record p; past the last, all fields are 0.
-pub fn piece_at(pieces: &[Piece], p: u16) -> Piece
-    ensures { result ≡ piece_at pieces.now p }
-{
-    if p as usize >= pieces.len() {
-        return whole();
-    }
-    pieces[p as usize]
-}
 
 // Marks the side i.
 fn mark_one(sides: &mut [Side], i: u16, leaf: u16)
     ensures { sides.new ≡ mark_one sides.old i leaf }
 {
-    if i as usize >= sides.len() {
-        return;
+    // Not by `get_mut`: of a slice it tells a proof the length alone, and not what was written.
+    if (i as usize) < sides.len() {
+        sides[i as usize].leaf = leaf;
     }
-    let side = sides[i as usize];
-    sides[i as usize] = Side {
-        low: side.low,
-        high: side.high,
-        link: side.link,
-        leaf,
-    };
 }
 
 // Marks the side i if its length is 1.
@@ -56,16 +39,16 @@ fn mark_triangle(sides: &mut [Side], base: u16, leaf: u16)
 fn mark_piece(sides: &mut [Side], p: u16, piece: Piece)
     ensures { sides.new ≡ mark_piece sides.old p piece }
 {
-    if piece.first == 0 {
+    if piece.is_single() {
         mark_triangle(sides, piece.top, p);
     }
 }
 
-// Marks the sides of all uncut pieces.
+// Marks the sides of the uncut ones of the first `count` pieces.
 pub fn mark_leaves(sides: &mut [Side], count: u16, pieces: &[Piece])
-    ensures { sides.new ≡ mark_all sides.old pieces.now count }
+    ensures { sides.new ≡ mark_all sides.old pieces.now (min count (length pieces.now)) }
 {
-    for p in 0..count {
-        mark_piece(sides, p, piece_at(pieces, p));
+    for (p, piece) in (0..count).zip(pieces) {
+        mark_piece(sides, p, *piece);
     }
 }

@@ -3,7 +3,7 @@
 
 mod reads;
 
-ghost use Rattle.std.specs.Prelude.{◌≡◌, ℕ, ◌+◌, ◌*◌, ◌<◌, ◌≤◌, length, take, drop, if◌then◌else◌, Some, None};
+ghost use Rattle.std.specs.Prelude.{◌≡◌, ℕ, ◌+◌, ◌*◌, ◌<◌, ◌≤◌, length, take, drop, ◌↔◌, if◌then◌else◌, Some, None, IsNone, IfNone, IfSome, IsSomeAnd};
 ghost use Rattle.holders.specs.Walks.{Walked};
 ghost use Rattle.pieces.specs.Division.{Division, LeavesMarked};
 ghost use Rattle.pieces.specs.Holders.{climbs, LaneHolders, WayUp};
@@ -12,7 +12,6 @@ ghost use Rattle.pieces.specs.Sides.{Ends, Filled, span};
 
 pub use reads::{Records, piece_at, side_at};
 use records::Piece;
-use ring::Side;
 
 // The most pieces that hold a lane: one at each level from 0 to 40.
 pub const MOST_HOLDERS: usize = 41;
@@ -21,10 +20,7 @@ pub const MOST_HOLDERS: usize = 41;
 pub fn parent_of(pieces: &[Piece], p: u16) -> Option<u16>
     ensures { result ≡ (if climbs pieces.now p then Some (piece_at pieces.now p).parent else None) }
 {
-    if p as usize >= pieces.len() {
-        return None;
-    }
-    let parent = pieces[p as usize].parent;
+    let parent = pieces.get(p as usize)?.parent;
     if parent < p { Some(parent) } else { None }
 }
 
@@ -35,6 +31,7 @@ pub fn way_up(pieces: &[Piece], from: u16, out: &mut [u16]) -> usize
 {
     let most = out.len().min(MOST_HOLDERS);
     let mut p = from;
+    // By index: the answer counts what is written, and of what is written through an adapter of `iter_mut` no proof knows anything.
     for k in 0..most {
         out[k] = p;
         match parent_of(pieces, p) {
@@ -46,14 +43,15 @@ pub fn way_up(pieces: &[Piece], from: u16, out: &mut [u16]) -> usize
 }
 
 // Writes the pieces that hold the lanes of the side i, from its leaf piece up, and says how many they are.
-pub fn lane_holders(sides: &[Side], i: u16, pieces: &[Piece], out: &mut [u16]) -> usize
-    ensures inside { result ≤ length out.old }
-    ensures few { result ≤ 41 }
-    ensures behind { drop result out.new ≡ drop result out.old }
-    ensures holders { (n : ℕ) (e : Ends) → Filled n e → Division n e pieces.now → LeavesMarked n sides.now (span e) pieces.now → 2 * n ≤ length sides.now + 3 → 2 * n ≤ length pieces.now + 5 → i + 3 < 2 * n → 41 ≤ length out.old → LaneHolders n (span e) pieces.now i (take result out.new) }
+// Where there is no such side, nothing is written.
+pub fn lane_holders(records: Records, i: u16, out: &mut [u16]) -> Option<usize>
+    ensures missing { IsNone result ↔ (length records.entry.sides.now ≤ i) }
+    ensures left { IfNone result (out.new ≡ out.old) }
+    ensures inside { IfSome result (λ count. count ≤ length out.old) }
+    ensures few { IfSome result (λ count. count ≤ 41) }
+    ensures behind { IfSome result (λ count. drop count out.new ≡ drop count out.old) }
+    ensures holders { (n : ℕ) (e : Ends) → Filled n e → Division n e records.entry.pieces.now → LeavesMarked n records.entry.sides.now (span e) records.entry.pieces.now → 2 * n ≤ length records.entry.sides.now + 3 → 2 * n ≤ length records.entry.pieces.now + 5 → i + 3 < 2 * n → 41 ≤ length out.old → IsSomeAnd result (λ count. LaneHolders n (span e) records.entry.pieces.now i (take count out.new)) }
 {
-    if i as usize >= sides.len() {
-        return 0;
-    }
-    way_up(pieces, sides[i as usize].leaf, out)
+    let side = records.sides.get(i as usize)?;
+    Some(way_up(records.pieces, side.leaf, out))
 }

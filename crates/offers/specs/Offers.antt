@@ -1,6 +1,6 @@
 -- When an offered trip has a price, and which.
 -- Assumes nothing.
-use Rattle.std.specs.Prelude.{◌≡◌, ℕ, ◌<◌, ◌≤◌, true, false, List, length, Some, None, Ok, Err, Option, Result, slice_index_or}
+use Rattle.std.specs.Prelude.{◌≡◌, ℕ, ◌+◌, ◌++◌, min, codes, decimal, ◌<◌, ◌≤◌, true, false, List, length, Some, None, Ok, Err, Option, Result, slice_index_or}
 use Rattle.rates.specs.Kinds.{Kind}
 use Rattle.rates.specs.Many.{joined_all}
 use Rattle.offers.specs.declared.offer.Refusal.{Refusal}
@@ -9,6 +9,12 @@ use Rattle.offers.specs.declared.offer.Refusal.TheVariants.{Empty, TooMany, NoLa
 -- the most lanes of an offered trip
 abbrev pub most_lanes : ℕ
 most_lanes = 4095
+
+-- what is said of a refusal; a lane is named by its number from 1
+abbrev pub refusal_text : Refusal → List ℕ
+refusal_text Empty = codes "no lanes: a trip has one at least"
+refusal_text TooMany = codes "too many lanes: a trip has 4095 at most"
+refusal_text (NoLaneRate k) = codes "no lane rate of this kind at lane " ++ decimal (min (k + 1) 18446744073709551615)
 
 module _ {M : Type 0} (K : Kind M) where
   -- the first n places of a list hold lane rates

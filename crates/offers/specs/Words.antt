@@ -1,7 +1,6 @@
--- What a word is read as, as a number, as cents, as tonnes and as a pair; and the text of cents and of tonnes.
+-- What a word is read as, as a number, as cents, as tonnes and as a pair.
 -- Assumes nothing.
-use Rattle.std.specs.Prelude.{◌≡◌, ℕ, ◌<◌, T, cond, ◌⊎◌, List, length, slice_index, ◌++◌, ◌∷◌, ◌≢◌, ℤ, pos, negsuc, FitsSigned, nat_le, Option, Some, None, codes, decimal}
-use Rattle.std.specs.Fmt.{signed_decimal}
+use Rattle.std.specs.Prelude.{◌≡◌, ℕ, ◌<◌, T, cond, ◌⊎◌, List, length, slice_index, ◌++◌, ◌∷◌, ◌≢◌, ℤ, pos, negsuc, FitsSigned, nat_le, Option, Some, None}
 use Rattle.std.specs.Int.{w64}
 use Rattle.std.specs.Str.Parse.{IsNumeral, starts_with_minus, without_leading_sign, signed_digits_value}
 use Rattle.rates.specs.Meanings.{load_of}
@@ -9,7 +8,6 @@ use Rattle.rates.specs.declared.cents.Cents.{Cents}
 use Rattle.rates.specs.declared.cents.Cents.TheVariants.{None as NoCents, Whole}
 use Rattle.rates.specs.declared.pair.Pair.{Pair}
 use Rattle.rates.specs.declared.tonnes.Tonnes.{Tonnes}
-use Rattle.rates.specs.declared.tonnes.Tonnes.TheVariants.{UpTo, Unlimited}
 use Rattle.rates.specs.Loads.{Load, tonnes_kind, most_tonnes}
 use Rattle.rates.specs.Loads.Load.{up_to}
 
@@ -46,14 +44,6 @@ CentsRead word (Some (Whole z)) = ReadAs word (Some z)
 abbrev pub TonnesRead : List ℕ → Option Tonnes → Type 0
 TonnesRead word None = ReadAs word None
 TonnesRead word (Some t) = (z : ℤ) × ReadAs word (Some z) × LoadOf z (load_of t)
-
-abbrev pub cents_text : Cents → List ℕ
-cents_text NoCents = codes "none"
-cents_text (Whole z) = signed_decimal z
-
-abbrev pub tonnes_text : Tonnes → List ℕ
-tonnes_text Unlimited = codes "unlimited"
-tonnes_text (UpTo c) = decimal c.tonnes
 
 -- the slash of a pair
 abbrev pub slash : ℕ

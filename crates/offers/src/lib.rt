@@ -1,5 +1,6 @@
-// Offered trips: the rates of their lanes as text, and the price of a trip.
+// Offered trips: the kinds of rate by name, the rates of their lanes as text, and the price of a trip.
 #![tactic(auto)]
 
+pub mod kinds;
 pub mod offer;
 pub mod written;

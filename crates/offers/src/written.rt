@@ -1,19 +1,20 @@
-// Rates as text: how a word writes a rate, and how a rate is printed.
-ghost use Rattle.std.specs.Prelude.{◌≡◌, ℕ, List, Option, Some, ◌++◌, codes, IfOk, string_bytes};
+// Kinds of rate whose rates are read from words and printed.
+ghost use Rattle.std.specs.Prelude.{◌≡◌, ℕ, List, Option, Some, refl};
 ghost use Rattle.rates.specs.declared.cents.Cents.TheVariants.{Whole};
 ghost use Rattle.rates.specs.Meanings.{load_of};
-ghost use Rattle.offers.specs.Words.{Number, number as number_of, LoadOf, ReadAs, CentsRead, TonnesRead, PairRead, cents_text, tonnes_text};
+ghost use Rattle.offers.specs.Words.{Number, number as number_of, LoadOf, ReadAs, CentsRead, TonnesRead, PairRead};
+ghost use Rattle.rates.specs.Texts.{cents_text, tonnes_text, joined_text, parts_printed};
 
 use rates::capped::Capped;
 use rates::cents::Cents;
 use rates::kind::{Rate, Strict};
 use rates::pair::Pair;
 use rates::tonnes::Tonnes;
-use std::alloc::{AllocError, Global};
+use std::fmt;
 use std::num::IntErrorKind;
 
 // A kind of rate whose rates are read from words and printed.
-pub trait Written: Rate {
+pub trait Written: Rate + fmt::Display {
     // What a word may be read as.
     ghost reads: { List ℕ → Option Self → Type 0 };
 
@@ -24,8 +25,8 @@ pub trait Written: Rate {
     fn read(word: &str) -> Option<Self>
         ensures { reads word.now result };
 
-    fn show(self, heap: Global) -> Result<String, AllocError>
-        ensures { IfOk result (λ s. string_bytes s ≡ text self) };
+    // Printing a rate writes its text.
+    ghost printed: { (rate : Self) → Self.Display.output rate ≡ Some (text rate) };
 }
 
 // A whole number in decimal; one past the range of 64 bits is read as the end of that range.
@@ -47,10 +48,7 @@ fn read_number(word: &str) -> Option<i64>
 fn tonnes_of(number: i64) -> Tonnes
     ensures { LoadOf number (load_of result) }
 {
-    if number < 0 || number > i64::from(Capped::MOST) {
-        return Tonnes::none();
-    }
-    match Capped::new(number as u32) {
+    match u32::try_from(number).ok().and_then(Capped::new) {
         Some(capped) => Tonnes::UpTo(capped),
         None => Tonnes::none(),
     }
@@ -61,18 +59,13 @@ impl Written for Cents {
 
     ghost text = { cents_text };
 
+    ghost printed = { λ rate. refl };
+
     fn read(word: &str) -> Option<Cents>
         ensures number { Number word.now → result ≡ Some (Whole (number_of word.now)) }
         ensures any { CentsRead word.now result }
     {
         Some(Cents::Whole(read_number(word)?))
-    }
-
-    fn show(self, heap: Global) -> Result<String, AllocError> {
-        match self {
-            Cents::None => String::from_str(heap, "none"),
-            Cents::Whole(number) => number.to_string(heap),
-        }
     }
 }
 
@@ -81,22 +74,19 @@ impl Written for Tonnes {
 
     ghost text = { tonnes_text };
 
+    ghost printed = { λ rate. refl };
+
     fn read(word: &str) -> Option<Tonnes> {
         Some(tonnes_of(read_number(word)?))
-    }
-
-    fn show(self, heap: Global) -> Result<String, AllocError> {
-        match self {
-            Tonnes::Unlimited => String::from_str(heap, "unlimited"),
-            Tonnes::UpTo(capped) => capped.tonnes().to_string(heap),
-        }
     }
 }
 
 impl<P: Written + Strict, Q: Written> Written for Pair<P, Q> {
     ghost reads = { PairRead P.Written.reads Q.Written.reads };
 
-    ghost text = { λ pair. P.Written.text pair.first ++ (codes ", " ++ Q.Written.text pair.second) };
+    ghost text = { λ pair. joined_text (P.Written.text pair.first) (Q.Written.text pair.second) };
+
+    ghost printed = { λ pair. parts_printed (P.Written.printed pair.first) (Q.Written.printed pair.second) };
 
     fn read(word: &str) -> Option<Pair<P, Q>> {
         let (first, second) = word.split_once('/')?;
@@ -104,12 +94,5 @@ impl<P: Written + Strict, Q: Written> Written for Pair<P, Q> {
             first: P::read(first)?,
             second: Q::read(second)?,
         })
-    }
-
-    fn show(self, heap: Global) -> Result<String, AllocError> {
-        let mut text = self.first.show(heap)?;
-        text.push_str(", ")?;
-        text.push_str(self.second.show(heap)?.as_str())?;
-        Ok(text)
     }
 }

@@ -9,23 +9,17 @@ ghost use Rattle.piece_rates.specs.Parents.{ParentShows, ShownIsWithin};
 use rates::kind::Rate;
 
 // In a division of a filled ring each cut piece meets the premises of a climb, with the ends of its seam.
-pub fn cuts_have_shape() -> u8
+pub fn cuts_have_shape()
     ensures { CutsHaveShape }
-{
-    0
-}
+{}
 
 // The climbs over two parts' sheets that show their best rates show the best rates of the whole; no rate in them is too large.
-pub fn parents_show<R: Rate>() -> u8
+pub fn parents_show<R: Rate>()
     ensures shows { ParentShows R.kind }
     ensures within { ShownIsWithin R.kind }
-{
-    0
-}
+{}
 
 // A leaf's sheet from the lanes of its triangle shows the leaf's best rates.
-pub fn leaves_show<R: Rate>() -> u8
+pub fn leaves_show<R: Rate>()
     ensures { LeafShows R.kind }
-{
-    0
-}
+{}

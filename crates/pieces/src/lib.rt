@@ -6,37 +6,27 @@ ghost use Rattle.pieces.specs.Holders.{HoldersOnWayUp, WayUpComplete};
 ghost use Rattle.pieces.specs.Statements.{OneListOfRecords, RecordsDivide};
 
 // The records that cutting leaves are a division of the filled ring.
-pub fn records_divide() -> u8
+pub fn records_divide()
     ensures { RecordsDivide }
-{
-    0
-}
+{}
 
 // Sides with the same ends leave the same piece records.
-pub fn one_list_of_records() -> u8
+pub fn one_list_of_records()
     ensures { OneListOfRecords }
-{
-    0
-}
+{}
 
 // The pieces that hold a triangle are the uncut one that does and those above it.
-pub fn holders_on_way_up() -> u8
+pub fn holders_on_way_up()
     ensures { HoldersOnWayUp }
-{
-    0
-}
+{}
 
 // The way up from a piece lists it and the pieces above it, at most 41.
-pub fn way_up_complete() -> u8
+pub fn way_up_complete()
     ensures { WayUpComplete }
-{
-    0
-}
+{}
 
 // For a seam with ends x < y the lanes of the inner part have both ends in [x, y] and those of the outer none strictly between;
 // the edge terminals of a piece are among its children's, and x and y are edge terminals of both.
-pub fn seams_part_lanes() -> u8
+pub fn seams_part_lanes()
     ensures { SeamsPartLanes }
-{
-    0
-}
+{}

@@ -1,6 +1,6 @@
 -- Sides that are the same but for their leaves: what is read from them is the same.
 -- Assumes nothing.
-use Rattle.std.proofs.Common.{◌≡◌, ℕ, zero, suc, ◌+◌, ◌-◌, ◌*◌, ◌<◌, ◌≤◌, List, [], ◌∷◌, map, length, get_or, take, drop, Err, Decides, sym, refl, ap, ◌∙◌, subst, ⊎_elim, arith}
+use Rattle.std.proofs.Common.{◌≡◌, ℕ, zero, suc, ◌+◌, ◌-◌, ◌*◌, ◌<◌, ◌≤◌, List, [], ◌∷◌, map, length, get_or, take, drop, Ok, Err, Result, Decides, sym, refl, ap, ◌∙◌, subst, ⊎_elim, arith}
 use Rattle.std.proofs.lemmas.List.{take-map, drop-map}
 use Rattle.trips.specs.Links.{Ends, SameLink}
 use Rattle.triangulation.specs.Trees.{preorder, side_count}
@@ -105,7 +105,7 @@ laid_out n links s ss s' p p' least most d k v =
     }
 
 -- A drawn ring in areas that are long enough is divided without fail.
-pub never_undivided : (n : ℕ) (f : Undivided) (ss s' : List Side) (p t p' : List Piece) → 3 ≤ n → n ≤ 4096 → piece_count n ≤ length p → todo_count ≤ length t
+never_undivided : (n : ℕ) (f : Undivided) (ss s' : List Side) (p t p' : List Piece) → 3 ≤ n → n ≤ 4096 → piece_count n ≤ length p → todo_count ≤ length t
     → Triangulated n ss → Outcome n ss p t (Err f) s' p' → ⊥
 never_undivided n Terminals ss s' p t p' least most a b T o = ⊎_elim (λ (h : n < 3). omega arith) (λ (h : 4096 < n). omega arith) o.0
 never_undivided n Short ss s' p t p' least most a b T o =
@@ -115,3 +115,8 @@ never_undivided n Short ss s' p t p' least most a b T o =
     (⊎_elim (λ (h : length p + 5 < 2 * n). omega arith) (λ (h : length t < 64). omega arith))
     o.2
 never_undivided n NotFilled ss s' p t p' least most a b T o = o.1 (front_filled n ss least most T)
+
+pub always_divided : (n : ℕ) (r : Result Unit Undivided) (ss s' : List Side) (p t p' : List Piece) → 3 ≤ n → n ≤ 4096 → piece_count n ≤ length p → todo_count ≤ length t
+    → Triangulated n ss → Outcome n ss p t r s' p' → r ≡ Ok tt
+always_divided n (Ok u) ss s' p t p' least most a b T o = refl
+always_divided n (Err f) ss s' p t p' least most a b T o = absurd (never_undivided n f ss s' p t p' least most a b T o)

@@ -5,7 +5,7 @@
 use cutting::whole;
 use division::TODO_PIECES;
 use plan::{lay_out, piece_count};
-use ring::{Link, MOST_TERMINALS, Side, side_count};
+use ring::{Link, MOST_TERMINALS, PlanFault, Side, side_count};
 use shapes::{Shape, draw_shape};
 use std::alloc::{AllocError, Global};
 use std::{env, io};
@@ -23,6 +23,7 @@ struct Wish {
 // Puts the links into an order that looks random and is the same on every run.
 fn shuffle(links: &mut [Link]) {
     let mut seed: u64 = 12345;
+    // by index: a swap is of two places
     for i in 0..links.len() {
         seed = seed
             .wrapping_mul(6364136223846793005)
@@ -32,6 +33,7 @@ fn shuffle(links: &mut [Link]) {
     }
 }
 
+// The links of the shape that is wished for.
 fn make_links(heap: Global, wish: Wish) -> Result<Vec<Link>, AllocError> {
     let count = match wish.shape {
         Shape::Bare => 0,
@@ -49,8 +51,8 @@ fn make_links(heap: Global, wish: Wish) -> Result<Vec<Link>, AllocError> {
     Ok(links)
 }
 
-// Lays out the plan, and says by which number it was refused, or 0.
-fn run(heap: Global, wish: Wish) -> Result<u8, AllocError> {
+// Lays out the plan, and says why it is refused, if it is.
+fn run(heap: Global, wish: Wish) -> Result<Option<PlanFault>, AllocError> {
     let n = wish.terminals;
     let links = make_links(heap, wish)?;
     let blank = Side {
@@ -63,29 +65,30 @@ fn run(heap: Global, wish: Wish) -> Result<u8, AllocError> {
     let mut pieces = vec![in heap; whole(); piece_count(n)]?;
     let mut todo = vec![in heap; whole(); TODO_PIECES]?;
     if wish.idle {
-        return Ok(0);
+        return Ok(None);
     }
-    match lay_out(n, &links, &mut sides, &mut pieces, &mut todo) {
-        Ok(()) => Ok(0),
-        Err(fault) => Ok(fault.number()),
-    }
+    Ok(lay_out(n, &links, &mut sides, &mut pieces, &mut todo).err())
 }
 
-// The wish with one more argument heard.
-fn hear(wish: Wish, word: &str) -> Wish {
-    let mut next = wish;
-    match word {
-        "fan" => next.shape = Shape::Fan,
-        "zigzag" => next.shape = Shape::Zigzag,
-        "balanced" => next.shape = Shape::Balanced,
-        "scattered" => next.shape = Shape::Scattered,
-        "none" => next.shape = Shape::Bare,
-        "shuffled" => next.mixed = true,
-        "large" => next.terminals = MOST_TERMINALS,
-        "idle" => next.idle = true,
-        _ => {}
+impl Wish {
+    // The wish with one more argument heard.
+    fn hear(self, word: &str) -> Wish {
+        match word {
+            "shuffled" => Wish {
+                mixed: true,
+                ..self
+            },
+            "large" => Wish {
+                terminals: MOST_TERMINALS,
+                ..self
+            },
+            "idle" => Wish { idle: true, ..self },
+            _ => Wish {
+                shape: word.parse().unwrap_or(self.shape),
+                ..self
+            },
+        }
     }
-    next
 }
 
 fn main(rt: HostRuntime) -> io::Result<()> {
@@ -96,9 +99,9 @@ fn main(rt: HostRuntime) -> io::Result<()> {
         idle: false,
     };
     for word in env::args(&rt)? {
-        wish = hear(wish, word.as_str());
+        wish = wish.hear(word.as_str());
     }
     let n = wish.terminals;
-    let refusal = run(rt.alloc(), wish)?;
+    let refusal = run(rt.alloc(), wish)?.map_or(0, PlanFault::number);
     println!(rt; "{n} terminals, refusal {refusal}")
 }

@@ -4,13 +4,13 @@
 use plan_text::{View, report};
 use std::{env, io};
 
+// What the arguments ask to be told of each plan.
 fn wanted(rt: &HostRuntime) -> io::Result<View> {
-    for word in env::args(rt)? {
-        if word.as_str() == "picture" {
-            return Ok(View::Picture);
-        }
+    if env::args(rt)?.any(|word| word.as_str() == "picture") {
+        Ok(View::Picture)
+    } else {
+        Ok(View::Tree)
     }
-    Ok(View::Tree)
 }
 
 fn main(rt: HostRuntime) -> io::Result<()> {

@@ -1,6 +1,6 @@
 -- What `lay` answers, from what `plan` leaves in areas of just the needed lengths.
 -- Assumes the terms of `plan`.
-use Rattle.std.proofs.Common.{◌≡◌, ℕ, zero, suc, ◌<◌, ◌≤◌, ◌⊎◌, min, List, [], length, Ok, Err, refl, sym, subst, inl, inr, ⊎_elim, arith}
+use Rattle.std.proofs.Common.{◌≡◌, ℕ, zero, suc, Result, ◌<◌, ◌≤◌, ◌⊎◌, min, List, [], length, Ok, Err, refl, sym, subst, inl, inr, ⊎_elim, arith}
 use Rattle.std.proofs.lemmas.Bool.{cases_lt}
 use Rattle.triangulation.specs.Trees.{side_count}
 use Rattle.ring.specs.declared.Area.{Area}
@@ -12,7 +12,10 @@ use Rattle.ring.specs.Faults.{Condition, First, SomeShort, fewest, most}
 use Rattle.records.specs.declared.Piece.{Piece}
 use Rattle.division.specs.Outcome.{front_ends}
 use Rattle.plan.specs.Layout.{Layout, lent, piece_count}
-use Rattle.plan_text.specs.Laid.{DividedRing}
+use Rattle.std.specs.Result.{IfErr, IsErrAnd}
+use Rattle.plan_text.specs.declared.laid.LayError.{LayError}
+use Rattle.plan_text.specs.declared.laid.LayError.TheVariants.{Refused as IsRefused}
+use Rattle.plan_text.specs.Laid.{DividedRing, NotLaid, Refused}
 
 -- a fault of the plan is one whatever areas are lent
 with_areas : (n : ℕ) (areas : List Area) (links : List Link) (g : PlanFault) → Condition n [] links g → Condition n areas links g
@@ -75,3 +78,8 @@ divided_ring n links s s' p p' range sides pieces laid = record {
 -- what is true of some records is true of the same records, written otherwise
 pub same_records : (P : List Side → List Piece → Type 0) (s s' : List Side) (p p' : List Piece) → s ≡ s' → p ≡ p' → P s' p' → P s p
 same_records P s s' p p' sides pieces holds = subst (λ x. P x p) (sym sides) (subst (P s') (sym pieces) holds)
+
+-- a refused plan is not laid out, by its fault
+pub not_laid : {T : Type 0} (n : ℕ) (links : List Link) (r : Result T LayError) (fault : PlanFault) → IsErrAnd r (λ e. e ≡ IsRefused fault) → Refused n links fault → IfErr r (NotLaid n links)
+not_laid n links (Ok laid) fault is found = tt
+not_laid n links (Err e) fault is found = subst (NotLaid n links) (sym is) found

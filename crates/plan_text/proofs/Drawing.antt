@@ -1,4 +1,4 @@
--- How long a sine is, and what writing in steps puts on a page.
+-- How long a sine is, and the texts of the numbers below one.
 -- Assumes nothing.
 use Rattle.std.proofs.Common.{◌≡◌, ℕ, ◌+◌, ◌-◌, ◌*◌, ◌/◌, ◌<◌, ◌≤◌, inl, inr, List, [], ◌∷◌, ◌++◌, ap, subst, sym, ◌∙◌, arith}
 use Rattle.std.proofs.lemmas.Bool.{cases_lt}
@@ -7,10 +7,7 @@ use Rattle.std.proofs.Math.Nat.{mul_comm}
 use Rattle.std.proofs.lemmas.List.{flat_map_more, map-id}
 use Rattle.std.proofs.lemmas.List.FromFn.{map-range_with_len_more}
 use Rattle.std.specs.List.{flat_map, range_with_len}
-use Rattle.plan_text.specs.Pages.{GrownBy}
 use Rattle.plan_text.specs.Pictures.{sine, radius}
-use Rattle.plan_text.specs.declared.page.Page.{Page}
-use Rattle.plan_text.proofs.Pages.{GrownBy-nil, GrownBy-append, GrownBy-same}
 
 square_below : (x k : ℕ) → x * (x + k + k) ≤ (x + k) * (x + k)
 square_below x k = omega arith
@@ -46,24 +43,6 @@ product_small a = elim (cases_lt a 901) [
 -- no sine is longer than the radius
 pub sine_within : (angle : ℕ) → sine angle ≤ radius
 sine_within angle = quotient_below (angle * (1800 - angle)) (product_small angle)
-
--- the page has grown by a text, as a record, so that a next step needs to name only what is new
-pub record Grown (a b : Page) (u : List ℕ) : Type 0 where
-  pub by : GrownBy a b u
-
-pub at_first : (a : Page) → Grown a a []
-at_first a = record { by = GrownBy-nil a }
-
-pub then : {a b : Page} {u : List ℕ} → Grown a b u → (c : Page) (v : List ℕ) → GrownBy b c v → Grown a c (u ++ v)
-then {a} {b} {u} first c v second = record { by = GrownBy-append a b c u v first.by second }
-
--- the next text is also another one, to which it is equal
-pub then_as : {a b : Page} {u : List ℕ} → Grown a b u → (c : Page) (v w : List ℕ) → GrownBy b c v → v ≡ w → Grown a c (u ++ w)
-then_as {a} {b} {u} first c v w second same = then first c w (GrownBy-same b c v w same second)
-
--- the whole text, written otherwise
-pub whole_as : {a b : Page} {u : List ℕ} → Grown a b u → (v : List ℕ) → u ≡ v → GrownBy a b v
-whole_as {a} {b} {u} grown v same = GrownBy-same a b u v same grown.by
 
 range_more : (n : ℕ) → range_with_len 0 (n + 1) ≡ range_with_len 0 n ++ n ∷ []
 range_more n = sym (map-id _) ∙ map-range_with_len_more (λ (k : ℕ). k) 0 n n (omega arith) ∙ ap (λ (xs : List ℕ). xs ++ n ∷ []) (map-id _)

@@ -1,6 +1,6 @@
 pub mod Circles
 pub mod Drawing
-pub mod Pages
+pub mod Texts
 pub mod Holders
 pub mod Accepted
 pub mod Trees

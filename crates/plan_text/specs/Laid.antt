@@ -13,6 +13,8 @@ use Rattle.pieces.specs.Holders.{way_up}
 use Rattle.division.specs.Outcome.{front_ends}
 use Rattle.plan.specs.Layout.{Layout}
 use Rattle.plan_text.specs.declared.laid.Laid.{Laid}
+use Rattle.plan_text.specs.declared.laid.LayError.{LayError}
+use Rattle.plan_text.specs.declared.laid.LayError.TheVariants.{Refused as IsRefused, OutOfMemory}
 
 -- r is the greatest level of a piece, or 0 if there is none
 pub record Deepest (pieces : List Piece) (r : ℕ) : Type 0 where
@@ -63,3 +65,8 @@ pub record LaidOut (n : ℕ) (links : List Link) (laid : Laid) : Type 0 where
 -- the fault is the first that the plan has; it is none of an area, since no areas are lent
 abbrev pub Refused : ℕ → List Link → PlanFault → Type 0
 Refused n links fault = First (Condition n [] links) (Err fault)
+
+-- why the plan is not laid out: it is refused by this fault, or memory has run out
+abbrev pub NotLaid : ℕ → List Link → LayError → Type 0
+NotLaid n links (IsRefused fault) = Refused n links fault
+NotLaid n links OutOfMemory = Unit {0}

@@ -1,5 +1,5 @@
 pub mod Commands
-pub mod Pages
+pub mod Texts
 pub mod Pictures
 pub mod Laid
 pub mod Trees

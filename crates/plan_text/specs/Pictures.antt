@@ -101,12 +101,16 @@ line_text from to style =
     told (codes "<line x1=\"") from.x (codes "\" ") ++ told (codes "y1=\"") from.y (codes "\" ")
     ++ told (codes "x2=\"") to.x (codes "\" ") ++ told (codes "y2=\"") to.y (codes "\" ") ++ style ++ codes "/>\n"
 
+-- a broad line from one point to another, in a colour
+unfoldable pub broad_line_text : Point → Point → List ℕ → List ℕ
+broad_line_text from to colour =
+    codes "<g stroke-width=\"9\" stroke-opacity=\"0.7\" stroke=\"" ++ colour ++ codes "\">" ++ line_text from to [] ++ codes "</g>\n"
+
 -- the seam of a piece, as a broad line between the places of its ends, in the colour of the piece's level
-unfoldable pub seam_text : ℕ → List Side → Piece → List ℕ
+abbrev pub seam_text : ℕ → List Side → Piece → List ℕ
 seam_text n sides piece =
     let seam = side_at sides piece.seam in
-    codes "<g stroke-width=\"9\" stroke-opacity=\"0.7\" stroke=\"" ++ colour_text piece.level ++ codes "\">"
-    ++ line_text (point_at n seam.low) (point_at n seam.high) [] ++ codes "</g>\n"
+    broad_line_text (point_at n seam.low) (point_at n seam.high) (colour_text piece.level)
 
 -- a piece that is cut has a seam; a piece of one triangle has none
 abbrev pub cut_text : ℕ → List Side → Piece → List ℕ
@@ -127,18 +131,25 @@ mark_text at terminal =
 abbrev pub terminal_text : ℕ → ℕ → List ℕ
 terminal_text n terminal = mark_text (point_at n terminal) terminal
 
--- the line of the legend for a level, each 18 below the one before
-unfoldable pub legend_text : ℕ → List ℕ
-legend_text level =
-    told (codes "<text x=\"8\" y=\"") (level * 18 + 20) (codes "\" fill=\"") ++ colour_text level
+-- the line of the legend for a level that has this colour, each 18 below the one before
+unfoldable pub key_text : ℕ → List ℕ → List ℕ
+key_text level colour =
+    told (codes "<text x=\"8\" y=\"") (level * 18 + 20) (codes "\" fill=\"") ++ colour
     ++ told (codes "\">seams at level ") level (codes "</text>\n")
 
--- the head, with the corners of what is shown
-unfoldable pub head_text : List ℕ
-head_text =
-    let size = 2 * radius + 2 * margin in
+-- the same in the colour of the level
+abbrev pub legend_text : ℕ → List ℕ
+legend_text level = key_text level (colour_text level)
+
+-- the head, with the corners of what is shown, in a picture of this width and height
+unfoldable pub sized_head_text : ℕ → List ℕ
+sized_head_text size =
     told (codes "<svg xmlns=\"http://www.w3.org/2000/svg\" font-family=\"sans-serif\" font-size=\"12\" viewBox=\"0 0 ") size (codes " ")
     ++ told [] size (codes "\">\n")
+
+-- the head of the picture, which has the circle and the room around it
+abbrev pub head_text : List ℕ
+head_text = sized_head_text (2 * radius + 2 * margin)
 
 -- the seams of the pieces that are cut, in the order of the pieces
 abbrev pub seams_text : ℕ → List Side → List Piece → List ℕ

@@ -1,6 +1,6 @@
 -- What is told of a text of commands: the plans in it one after another, each where it ends.
 -- Assumes the terms of `Commands`, `Laid`, `Trees` and `Pictures`.
-use Rattle.std.specs.Prelude.{◌≡◌, ℕ, ◌+◌, ◌-◌, ◌<◌, ◌≤◌, ◌*◌, ◌≢◌, ◌⊎◌, min, List, [], ◌∷◌, ◌++◌, length, Option, Some, None, IsSome, codes, decimal}
+use Rattle.std.specs.Prelude.{◌≡◌, ℕ, ◌+◌, ◌-◌, ◌<◌, ◌≤◌, ◌*◌, ◌≢◌, ◌⊎◌, min, List, [], ◌∷◌, ◌++◌, length, Option, Some, None, IsSome, Result, Ok, Err, codes, decimal}
 use Rattle.std.specs.Str.Lines.{IsFirstLine}
 use Rattle.ring.specs.declared.Link.{Link}
 use Rattle.ring.specs.declared.PlanFault.{PlanFault}
@@ -12,7 +12,8 @@ use Rattle.plan_text.specs.declared.laid.Laid.{Laid}
 use Rattle.plan_text.specs.declared.telling.View.{View}
 use Rattle.plan_text.specs.declared.telling.View.TheVariants.{Summary, Tree, Picture}
 use Rattle.plan_text.specs.declared.commands.Command.{Command}
-use Rattle.plan_text.specs.declared.commands.Command.TheVariants.{Blank, Plan, Link as ALink, Shape as AShape, Unknown}
+use Rattle.plan_text.specs.declared.commands.Command.TheVariants.{Blank, Plan, Link as ALink, Shape as AShape}
+use Rattle.plan_text.specs.declared.commands.UnknownCommand.{UnknownCommand}
 use Rattle.plan_text.specs.Commands.{CommandIs}
 use Rattle.plan_text.specs.Laid.{LaidOut, Refused}
 use Rattle.plan_text.specs.Trees.{SummaryText, tree_text, fault_text}
@@ -52,6 +53,10 @@ abbrev pub EndTold : View → Option ℕ → List Link → List ℕ → Type 0
 EndTold view None links words = words ≡ []
 EndTold view (Some n) links words = (told : List ℕ) × (PlanTold view n links told × (words ≡ title_text view n (length links) ++ told))
 
+-- the same of the plan that is being read
+abbrev pub ReadingEnds : View → Reading → List ℕ → Type 0
+ReadingEnds view reading words = EndTold view reading.terminals reading.links words
+
 -- The links of a shape: none where it has none or the ring fewer than two terminals, else the sides of its triangulation;
 -- above the most terminals, those of the most.
 abbrev pub ShapeLinks : Shape → ℕ → List Link → Type 0
@@ -79,17 +84,17 @@ pub record ShapeTold (view : View) (line : List ℕ) (shape : Shape) (n : ℕ) (
   pub plan : PlanTold Summary n links told
   pub all : words ≡ ended ++ (line ++ (codes ": " ++ told))
 
--- what a command does to the plan that is being read, and what is told of it
-abbrev pub Obeyed : View → ℕ → List ℕ → Command → Reading → Reading → List ℕ → Type 0
-Obeyed view number line Blank before after words = (after ≡ before) × (words ≡ [])
-Obeyed view number line (Plan n) before after words = (after ≡ record { terminals = Some n; links = [] }) × EndTold view before.terminals before.links words
-Obeyed view number line (ALink link) before after words = LinkRead number line link before after words
-Obeyed view number line (AShape shape n) before after words = (after ≡ nothing_read) × ShapeTold view line shape n before words
-Obeyed view number line Unknown before after words = (after ≡ before) × (words ≡ complaint number line (codes " is no command: "))
+-- what a command, or a line that names none, does to the plan that is being read, and what is told of it
+abbrev pub Obeyed : View → ℕ → List ℕ → Result Command UnknownCommand → Reading → Reading → List ℕ → Type 0
+Obeyed view number line (Ok Blank) before after words = (after ≡ before) × (words ≡ [])
+Obeyed view number line (Ok (Plan n)) before after words = (after ≡ record { terminals = Some n; links = [] }) × EndTold view before.terminals before.links words
+Obeyed view number line (Ok (ALink link)) before after words = LinkRead number line link before after words
+Obeyed view number line (Ok (AShape shape n)) before after words = (after ≡ nothing_read) × ShapeTold view line shape n before words
+Obeyed view number line (Err _) before after words = (after ≡ before) × (words ≡ complaint number line (codes " is no command: "))
 
 -- what a line does and what is told of it
 pub record LineTold (view : View) (number : ℕ) (line : List ℕ) (before after : Reading) (words : List ℕ) : Type 0 where
-  pub command : Command
+  pub command : Result Command UnknownCommand
   pub is : CommandIs line command
   pub obeyed : Obeyed view number line command before after words
 

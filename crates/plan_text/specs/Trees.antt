@@ -5,8 +5,7 @@ use Rattle.std.specs.List.{flat_map}
 use Rattle.ring.specs.declared.Link.{Link}
 use Rattle.ring.specs.declared.Side.{Side}
 use Rattle.ring.specs.declared.PlanFault.{PlanFault}
-use Rattle.ring.specs.declared.PlanFault.TheVariants.{Terminals, ShortArea, BadEnds, Repeats, Crosses}
-use Rattle.ring.specs.Faults.{fault_number}
+use Rattle.ring.specs.Faults.{fault_number, faulty_link, reason}
 use Rattle.ring.specs.Linked.{ends_at}
 use Rattle.records.specs.declared.Piece.{Piece}
 use Rattle.records.specs.Few.{listed}
@@ -33,12 +32,18 @@ abbrev pub triangle_text : List Side → ℕ → List ℕ
 triangle_text sides i =
     decimal ((ends_of sides).low i) ++ (codes " " ++ (decimal ((ends_of sides).high (left i)) ++ (codes " " ++ decimal ((ends_of sides).high i))))
 
+-- the one triangle of a piece that is not cut
+abbrev pub single_text : List Side → ℕ → List ℕ
+single_text sides i = codes "triangle " ++ triangle_text sides i
+
+-- how many triangles a piece has, and its seam
+abbrev pub cut_text : List Side → Piece → List ℕ
+cut_text sides piece =
+    decimal (triangles (lengths sides) (listed piece.holes) piece.top) ++ (codes " triangles, seam " ++ ends_text sides piece.seam)
+
 -- what a piece is: its one triangle, or how many it has and its seam
 abbrev pub content_text : List Side → Piece → List ℕ
-content_text sides piece =
-    if piece.first == 0
-    then codes "triangle " ++ triangle_text sides piece.top
-    else decimal (triangles (lengths sides) (listed piece.holes) piece.top) ++ (codes " triangles, seam " ++ ends_text sides piece.seam)
+content_text sides piece = if piece.first == 0 then single_text sides piece.top else cut_text sides piece
 
 -- two blanks for each level
 abbrev pub indent : ℕ → List ℕ
@@ -77,22 +82,6 @@ pub record SummaryText (laid : Laid) (words : List ℕ) : Type 0 where
   pub deepest : Deepest laid.pieces.items level
   pub most : MostHolders laid.sides.items laid.pieces.items holders
   pub text : words ≡ summary_text (vec_len laid.pieces) level holders
-
--- why a plan is refused, in words
-abbrev pub reason : PlanFault → List ℕ
-reason Terminals = codes "a ring has 3 to 4096 terminals"
-reason ShortArea = codes "an area is too short"
-reason (BadEnds i) = codes "an end is no terminal, or the ends are equal"
-reason (Repeats i) = codes "it repeats an earlier link"
-reason (Crosses i) = codes "it crosses an earlier link"
-
--- which link a fault is of, if it is one's
-abbrev pub faulty_link : PlanFault → Option ℕ
-faulty_link Terminals = None
-faulty_link ShortArea = None
-faulty_link (BadEnds i) = Some i
-faulty_link (Repeats i) = Some i
-faulty_link (Crosses i) = Some i
 
 -- the two ends of the link i, if there is such a link
 abbrev pub link_ends_text : List Link → ℕ → List ℕ

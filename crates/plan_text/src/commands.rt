@@ -1,16 +1,16 @@
 // The lines of the text that names plans.
-ghost use Rattle.std.specs.Prelude.{◌≡◌, ◌≢◌, ℕ, List, MatchOption};
-ghost use Rattle.plan_text.specs.Commands.{CommandIs, Names, TerminalOf, name_of};
+ghost use Rattle.std.specs.Prelude.{ℕ, List, MatchOption};
+ghost use Rattle.plan_text.specs.Commands.{CommandIs, Names, TerminalOf};
 ghost use Rattle.plan_text.specs.declared.commands.Command.{Command};
-ghost use Rattle.shapes.specs.declared.Shape.{Shape as Form};
 ghost use Rattle.words.specs.Words.{Listed, NoNumeral};
 
 use ring::Link;
 use shapes::Shape;
+use std::str::FromStr;
 use words::{FewWords, number_of, up_to_four};
 
 // What a line asks for.
-#[derive(Clone, Copy)]
+#[derive(Clone, Copy, Debug, PartialEq, Eq)]
 pub enum Command {
     // Nothing: the line is blank.
     Blank,
@@ -20,27 +20,18 @@ pub enum Command {
     Link(Link),
     // A plan that is drawn for the asker, of a shape and so many terminals.
     Shape(Shape, usize),
-    Unknown,
 }
+
+// The line's words name no command.
+#[derive(Clone, Copy, Debug, PartialEq, Eq)]
+pub struct UnknownCommand;
 
 // A terminal; every number past 65,535 is read as 65,535, which is no terminal of any plan.
 fn read_terminal(word: &str) -> Option<u16>
     ensures { MatchOption result (NoNumeral word.now) (TerminalOf word.now) }
 {
-    Some(number_of(word)?.min(65535) as u16)
-}
-
-fn read_shape(word: &str) -> Option<Shape>
-    ensures { MatchOption result ((s : Form) → word.now ≢ name_of s) (λ s. word.now ≡ name_of s) }
-{
-    match word {
-        "fan" => Some(Shape::Fan),
-        "zigzag" => Some(Shape::Zigzag),
-        "balanced" => Some(Shape::Balanced),
-        "scattered" => Some(Shape::Scattered),
-        "none" => Some(Shape::Bare),
-        _ => None,
-    }
+    let number = number_of(word)?;
+    Some(u16::try_from(number).unwrap_or(u16::MAX))
 }
 
 // The command that the words of a line name, if they name one.
@@ -55,15 +46,18 @@ fn named(words: FewWords<'_>) -> Option<Command>
             to: read_terminal(to)?,
         })),
         FewWords::Three("shape", shape, terminals) => {
-            Some(Command::Shape(read_shape(shape)?, number_of(terminals)?))
+            Some(Command::Shape(shape.parse().ok()?, number_of(terminals)?))
         }
         _ => None,
     }
 }
 
-// What the line asks for.
-pub fn read_command(line: &str) -> Command
-    ensures { CommandIs line.now result }
-{
-    named(up_to_four(line)).unwrap_or(Command::Unknown)
+impl FromStr for Command {
+    type Err = UnknownCommand;
+
+    ghost from_str_gives = { CommandIs };
+
+    fn from_str(line: &str) -> Result<Command, UnknownCommand> {
+        named(up_to_four(line)).ok_or(UnknownCommand)
+    }
 }

@@ -3,7 +3,6 @@
 
 mod commands;
 mod laid;
-mod page;
 mod picture;
 mod telling;
 mod tree;

@@ -1,13 +1,13 @@
 // The ring as an SVG picture: terminals on a circle, ring sides, links, sides of the fill, and seams coloured by level.
-ghost use Rattle.std.specs.Prelude.{◌≡◌, ◌*◌, ◌≤◌, Decides};
-ghost use Rattle.plan_text.specs.Pages.{GrownBy, GrownByA};
-ghost use Rattle.plan_text.specs.Pictures.{are_neighbours, colour_text, head_text, InMargins, legend_text, legends_text, line_text, NearCircle, Neighbours, PictureText, point_at, radius, seam_text, seams_text, side_text, sides_text, sine, style_text, terminal_text, terminals_text, wave};
+ghost use Rattle.std.specs.Prelude.{◌≡◌, ◌*◌, ◌≤◌, Decides, OnOk};
+ghost use Rattle.plan_text.specs.Texts.{GrownBy, GrownByA};
+ghost use Rattle.plan_text.specs.Pictures.{are_neighbours, broad_line_text, colour_text, InMargins, key_text, legend_text, legends_text, line_text, mark_text, NearCircle, Neighbours, PictureText, point_at, radius, seam_text, seams_text, side_text, sides_text, sine, sized_head_text, style_text, terminal_text, terminals_text, wave};
 
 use crate::laid::{Laid, deepest};
-use crate::page::Page;
 use cutting::{high_end, low_end};
 use records::Piece;
 use ring::Side;
+use std::alloc::AllocError;
 
 // Angles are counted in tenths of a degree; half a turn has 1,800.
 const HALF_TURN: usize = 1800;
@@ -85,141 +85,169 @@ fn side_style(terminals: usize, side: Side) -> &'static str
     }
 }
 
-// The colour of the seams at a level; the colours come again after eight levels.
+// The colours of the seams, by level; they come again after eight levels.
+const COLOURS: [&str; 8] = [
+    "#d62728", "#ff7f0e", "#e6c700", "#2ca02c", "#17becf", "#1f77b4", "#9467bd", "#e377c2",
+];
+
+// The colour of the seams at a level.
 fn level_colour(level: u8) -> &'static str
     ensures { result.now ≡ colour_text level }
 {
-    match level % 8 {
-        0 => "#d62728",
-        1 => "#ff7f0e",
-        2 => "#e6c700",
-        3 => "#2ca02c",
-        4 => "#17becf",
-        5 => "#1f77b4",
-        6 => "#9467bd",
-        _ => "#e377c2",
-    }
+    COLOURS[level as usize % 8]
 }
 
 // Writes a line from one point to another, in a style.
-fn write_line(page: &mut Page, from: Point, to: Point, style: &str)
-    ensures { GrownBy page.old page.new (line_text from to style.now) }
+#[tactic(auto, unfolding(crate::specs::Pictures::line_text))]
+fn write_line(text: &mut String, from: Point, to: Point, style: &str) -> Result<(), AllocError>
+    ensures { OnOk result (GrownBy text.old text.new (line_text from to style.now)) }
 {
-    page.say("<line x1=\"", from.x, "\" ");
-    page.say("y1=\"", from.y, "\" ");
-    page.say("x2=\"", to.x, "\" ");
-    page.say("y2=\"", to.y, "\" ");
-    page.word(style);
-    page.word("/>\n");
+    writeln!(
+        text,
+        "<line x1=\"{}\" y1=\"{}\" x2=\"{}\" y2=\"{}\" {style}/>",
+        from.x, from.y, to.x, to.y
+    )
+}
+
+// Writes a broad line from one point to another, in a colour.
+#[tactic(auto, unfolding(crate::specs::Pictures::broad_line_text))]
+fn write_broad_line(
+    text: &mut String,
+    from: Point,
+    to: Point,
+    colour: &str,
+) -> Result<(), AllocError>
+    ensures { OnOk result (GrownBy text.old text.new (broad_line_text from to colour.now)) }
+{
+    write!(
+        text,
+        "<g stroke-width=\"9\" stroke-opacity=\"0.7\" stroke=\"{colour}\">"
+    )?;
+    write_line(text, from, to, "")?;
+    writeln!(text, "</g>")
 }
 
 // Writes the seam of a piece, as a broad line.
-fn write_seam(page: &mut Page, laid: &Laid, piece: Piece)
-    ensures { GrownBy page.old page.new (seam_text laid.now.terminals laid.now.sides.items piece) }
+fn write_seam(text: &mut String, laid: &Laid, piece: Piece) -> Result<(), AllocError>
+    ensures { OnOk result (GrownBy text.old text.new (seam_text laid.now.terminals laid.now.sides.items piece)) }
 {
     let from = place(laid.terminals, low_end(&laid.sides, piece.seam));
     let to = place(laid.terminals, high_end(&laid.sides, piece.seam));
-    page.word("<g stroke-width=\"9\" stroke-opacity=\"0.7\" stroke=\"");
-    page.word(level_colour(piece.level));
-    page.word("\">");
-    write_line(page, from, to, "");
-    page.word("</g>\n");
+    write_broad_line(text, from, to, level_colour(piece.level))
 }
 
 // Broad lines below the sides, one for each seam.
-fn write_seams(page: &mut Page, laid: &Laid)
-    ensures { GrownBy page.old page.new
-        (seams_text laid.now.terminals laid.now.sides.items laid.now.pieces.items) }
+fn write_seams(text: &mut String, laid: &Laid) -> Result<(), AllocError>
+    ensures { OnOk result (GrownBy text.old text.new
+        (seams_text laid.now.terminals laid.now.sides.items laid.now.pieces.items)) }
 {
     for piece in laid.pieces.iter() {
-        if piece.first > 0 {
-            write_seam(page, laid, *piece);
+        if !piece.is_single() {
+            write_seam(text, laid, *piece)?;
         }
     }
+    Ok(())
 }
 
-fn write_side(page: &mut Page, terminals: usize, side: Side)
-    ensures { GrownBy page.old page.new (side_text terminals side) }
+fn write_side(text: &mut String, terminals: usize, side: Side) -> Result<(), AllocError>
+    ensures { OnOk result (GrownBy text.old text.new (side_text terminals side)) }
 {
     let from = place(terminals, side.low);
     let to = place(terminals, side.high);
-    write_line(page, from, to, side_style(terminals, side));
+    write_line(text, from, to, side_style(terminals, side))
 }
 
-fn write_sides(page: &mut Page, laid: &Laid)
-    ensures { GrownBy page.old page.new (sides_text laid.now.terminals laid.now.sides.items) }
+fn write_sides(text: &mut String, laid: &Laid) -> Result<(), AllocError>
+    ensures { OnOk result (GrownBy text.old text.new (sides_text laid.now.terminals laid.now.sides.items)) }
 {
     for side in laid.sides.iter() {
-        write_side(page, laid.terminals, *side);
+        write_side(text, laid.terminals, *side)?;
     }
+    Ok(())
 }
 
-fn write_terminal(page: &mut Page, terminals: usize, terminal: u16)
-    ensures { GrownBy page.old page.new (terminal_text terminals terminal) }
+// Writes a circle with the terminal's number in it.
+#[tactic(auto, unfolding(crate::specs::Pictures::mark_text))]
+fn write_mark(text: &mut String, at: Point, terminal: u16) -> Result<(), AllocError>
+    requires { InMargins at }
+    ensures { OnOk result (GrownBy text.old text.new (mark_text at terminal)) }
 {
-    let at = place(terminals, terminal);
-    page.say(
-        "<circle r=\"11\" fill=\"#fff\" stroke=\"#000\" cx=\"",
-        at.x,
-        "\" ",
-    );
-    page.say("cy=\"", at.y, "\"/>\n");
-    page.say("<text text-anchor=\"middle\" x=\"", at.x, "\" ");
-    page.say("y=\"", at.y.saturating_add(4), "\">");
-    page.say("", terminal as usize, "</text>\n");
+    let Point { x, y } = at;
+    let below = y + 4;
+    writeln!(
+        text,
+        "<circle r=\"11\" fill=\"#fff\" stroke=\"#000\" cx=\"{x}\" cy=\"{y}\"/>"
+    )?;
+    writeln!(
+        text,
+        "<text text-anchor=\"middle\" x=\"{x}\" y=\"{below}\">{terminal}</text>"
+    )
 }
 
-fn write_terminals(page: &mut Page, terminals: usize)
-    ensures { GrownBy page.old page.new (terminals_text terminals) }
+// Writes a terminal at its place.
+fn write_terminal(text: &mut String, terminals: usize, terminal: u16) -> Result<(), AllocError>
+    ensures { OnOk result (GrownBy text.old text.new (terminal_text terminals terminal)) }
+{
+    write_mark(text, place(terminals, terminal), terminal)
+}
+
+fn write_terminals(text: &mut String, terminals: usize) -> Result<(), AllocError>
+    ensures { OnOk result (GrownBy text.old text.new (terminals_text terminals)) }
 {
     for terminal in 0..terminals.min(4096) as u16 {
-        write_terminal(page, terminals, terminal);
+        write_terminal(text, terminals, terminal)?;
     }
+    Ok(())
 }
 
-#[tactic(auto, unfolding(crate::specs::Pictures::legend_text))]
-fn write_level(page: &mut Page, level: u8)
-    ensures { GrownBy page.old page.new (legend_text level) }
+// Writes the line of the legend for a level that has this colour.
+#[tactic(auto, unfolding(crate::specs::Pictures::key_text))]
+fn write_key(text: &mut String, level: u8, colour: &str) -> Result<(), AllocError>
+    ensures { OnOk result (GrownBy text.old text.new (key_text level colour.now)) }
 {
-    page.say(
-        "<text x=\"8\" y=\"",
-        (level as usize * 18).saturating_add(20),
-        "\" fill=\"",
-    );
-    page.word(level_colour(level));
-    page.say("\">seams at level ", level as usize, "</text>\n");
+    let y = level as usize * 18 + 20;
+    writeln!(
+        text,
+        "<text x=\"8\" y=\"{y}\" fill=\"{colour}\">seams at level {level}</text>"
+    )
+}
+
+// Writes what the colour of a level means.
+fn write_level(text: &mut String, level: u8) -> Result<(), AllocError>
+    ensures { OnOk result (GrownBy text.old text.new (legend_text level)) }
+{
+    write_key(text, level, level_colour(level))
 }
 
 // What the colours mean.
-fn write_levels(page: &mut Page, last: u8)
-    ensures { GrownBy page.old page.new (legends_text last) }
+fn write_levels(text: &mut String, last: u8) -> Result<(), AllocError>
+    ensures { OnOk result (GrownBy text.old text.new (legends_text last)) }
 {
     for level in 0..last {
-        write_level(page, level);
+        write_level(text, level)?;
     }
+    Ok(())
 }
 
 // Writes what comes before the picture's parts: its size.
-fn write_head(page: &mut Page)
-    ensures { GrownBy page.old page.new head_text }
+#[tactic(auto, unfolding(crate::specs::Pictures::sized_head_text))]
+fn write_head(text: &mut String, size: usize) -> Result<(), AllocError>
+    ensures { OnOk result (GrownBy text.old text.new (sized_head_text size)) }
 {
-    let size = 2 * RADIUS + 2 * MARGIN;
-    page.say(
-        "<svg xmlns=\"http://www.w3.org/2000/svg\" font-family=\"sans-serif\" font-size=\"12\" viewBox=\"0 0 ",
-        size,
-        " ",
-    );
-    page.say("", size, "\">\n");
+    writeln!(
+        text,
+        "<svg xmlns=\"http://www.w3.org/2000/svg\" font-family=\"sans-serif\" font-size=\"12\" viewBox=\"0 0 {size} {size}\">"
+    )
 }
 
 // Writes the whole picture.
-pub fn write_picture(page: &mut Page, laid: &Laid)
-    ensures { GrownByA (PictureText laid.now) page.old page.new }
+pub fn write_picture(text: &mut String, laid: &Laid) -> Result<(), AllocError>
+    ensures { OnOk result (GrownByA (PictureText laid.now) text.old text.new) }
 {
-    write_head(page);
-    write_seams(page, laid);
-    write_sides(page, laid);
-    write_terminals(page, laid.terminals);
-    write_levels(page, deepest(&laid.pieces));
-    page.word("</svg>\n");
+    write_head(text, 2 * RADIUS + 2 * MARGIN)?;
+    write_seams(text, laid)?;
+    write_sides(text, laid)?;
+    write_terminals(text, laid.terminals)?;
+    write_levels(text, deepest(&laid.pieces))?;
+    writeln!(text, "</svg>")
 }

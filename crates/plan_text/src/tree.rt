@@ -1,133 +1,159 @@
 // The division as a tree, one line for a piece, and the one-line summary.
-ghost use Rattle.std.specs.Prelude.{◌≡◌};
-ghost use Rattle.records.specs.Few.{listed};
-ghost use Rattle.plan_text.specs.Pages.{GrownBy, GrownByA};
-ghost use Rattle.plan_text.specs.Trees.{content_text, edges_text, ends_text, fault_text, faulty_link, link_ends_text, link_text, piece_text, reason, SummaryText, tree_text};
+ghost use Rattle.std.specs.Prelude.{OnOk};
+ghost use Rattle.plan_text.specs.Texts.{GrownBy, GrownByA};
+ghost use Rattle.plan_text.specs.Trees.{content_text, cut_text, edges_text, ends_text, fault_text, indent, link_ends_text, link_text, piece_text, single_text, spaced, summary_text, SummaryText, tree_text};
 
 use crate::laid::{Laid, deepest, most_holders};
-use crate::page::Page;
 use cutting::{high_end, low_end, triangles};
-use records::{Few, Piece};
+use records::Piece;
 use ring::{Link, PlanFault, Side};
+use std::alloc::AllocError;
 
 // Writes the ends of the side i.
-fn write_ends(page: &mut Page, sides: &[Side], i: u16)
-    ensures { GrownBy page.old page.new (ends_text sides.now i) }
+fn write_ends(text: &mut String, sides: &[Side], i: u16) -> Result<(), AllocError>
+    ensures { OnOk result (GrownBy text.old text.new (ends_text sides.now i)) }
 {
-    page.say("", low_end(sides, i) as usize, "-");
-    page.number(high_end(sides, i) as usize);
+    write!(text, "{}-{}", low_end(sides, i), high_end(sides, i))
+}
+
+// Writes terminals, each behind a blank.
+fn write_spaced(text: &mut String, terminals: &[u16]) -> Result<(), AllocError>
+    ensures { OnOk result (GrownBy text.old text.new (spaced terminals.now)) }
+{
+    for terminal in terminals {
+        write!(text, " {terminal}")?;
+    }
+    Ok(())
 }
 
 // Writes the edge terminals, if there are any.
-fn write_edges(page: &mut Page, edges: Few)
-    ensures { GrownBy page.old page.new (edges_text (listed edges)) }
+fn write_edges(text: &mut String, edges: &[u16]) -> Result<(), AllocError>
+    ensures { OnOk result (GrownBy text.old text.new (edges_text edges.now)) }
 {
-    if edges.len() == 0 {
-        return;
+    if edges.is_empty() {
+        return Ok(());
     }
-    page.word(", edge terminals");
-    for k in 0..edges.len() {
-        page.say(" ", edges.get(k) as usize, "");
-    }
+    write!(text, ", edge terminals")?;
+    write_spaced(text, edges)
+}
+
+// Writes the three terminals of the triangle on the side i.
+fn write_triangle(text: &mut String, sides: &[Side], i: u16) -> Result<(), AllocError>
+    ensures { OnOk result (GrownBy text.old text.new (single_text sides.now i)) }
+{
+    let low = low_end(sides, i);
+    let between = high_end(sides, i.saturating_add(1));
+    let high = high_end(sides, i);
+    write!(text, "triangle {low} {between} {high}")
+}
+
+// Writes how many triangles a piece has, and its seam.
+fn write_cut(text: &mut String, sides: &[Side], piece: Piece) -> Result<(), AllocError>
+    ensures { OnOk result (GrownBy text.old text.new (cut_text sides.now piece)) }
+{
+    let count = triangles(sides, piece.holes, piece.top);
+    write!(text, "{count} triangles, seam ")?;
+    write_ends(text, sides, piece.seam)
 }
 
 // What a piece is: its triangles and its seam, or its one triangle's terminals.
-fn write_content(page: &mut Page, sides: &[Side], piece: Piece)
-    ensures { GrownBy page.old page.new (content_text sides.now piece) }
+fn write_content(text: &mut String, sides: &[Side], piece: Piece) -> Result<(), AllocError>
+    ensures { OnOk result (GrownBy text.old text.new (content_text sides.now piece)) }
 {
-    if piece.first == 0 {
-        page.say("triangle ", low_end(sides, piece.top) as usize, " ");
-        page.say(
-            "",
-            high_end(sides, piece.top.saturating_add(1)) as usize,
-            " ",
-        );
-        page.number(high_end(sides, piece.top) as usize);
+    if piece.is_single() {
+        write_triangle(text, sides, piece.top)
     } else {
-        page.number(triangles(sides, piece.holes, piece.top) as usize);
-        page.word(" triangles, seam ");
-        write_ends(page, sides, piece.seam);
+        write_cut(text, sides, piece)
     }
+}
+
+// Writes two blanks for each level.
+fn write_indent(text: &mut String, level: u8) -> Result<(), AllocError>
+    ensures { OnOk result (GrownBy text.old text.new (indent level)) }
+{
+    for _ in 0..level {
+        write!(text, "  ")?;
+    }
+    Ok(())
 }
 
 // Writes the line of a piece.
-fn write_piece(page: &mut Page, sides: &[Side], number: usize, piece: Piece)
-    ensures { GrownBy page.old page.new (piece_text sides.now number piece) }
+#[tactic(auto, unfolding(crate::specs::Trees::piece_text))]
+fn write_piece(
+    text: &mut String,
+    sides: &[Side],
+    number: usize,
+    piece: Piece,
+) -> Result<(), AllocError>
+    ensures { OnOk result (GrownBy text.old text.new (piece_text sides.now number piece)) }
 {
-    for _ in 0..piece.level {
-        page.word("  ");
-    }
-    page.say("piece ", number, ", level ");
-    page.say("", piece.level as usize, ": ");
-    write_content(page, sides, piece);
-    write_edges(page, piece.edges);
-    page.word("\n");
+    write_indent(text, piece.level)?;
+    write!(text, "piece {number}, level {}: ", piece.level)?;
+    write_content(text, sides, piece)?;
+    write_edges(text, piece.edges.as_slice())?;
+    writeln!(text)
+}
+
+// Writes the line of these counts.
+fn write_counts(
+    text: &mut String,
+    pieces: usize,
+    level: u8,
+    holders: usize,
+) -> Result<(), AllocError>
+    ensures { OnOk result (GrownBy text.old text.new (summary_text pieces level holders)) }
+{
+    writeln!(
+        text,
+        "pieces: {pieces}, deepest level: {level}, most pieces that hold one lane: {holders}"
+    )
 }
 
 // Writes the counts of a division.
-pub fn write_summary(page: &mut Page, laid: &Laid)
-    ensures { GrownByA (SummaryText laid.now) page.old page.new }
+pub fn write_summary(text: &mut String, laid: &Laid) -> Result<(), AllocError>
+    ensures { OnOk result (GrownByA (SummaryText laid.now) text.old text.new) }
 {
-    page.say("pieces: ", laid.pieces.len(), ", deepest level: ");
-    page.number(deepest(&laid.pieces) as usize);
-    page.say(
-        ", most pieces that hold one lane: ",
-        most_holders(&laid.sides, &laid.pieces),
-        "\n",
-    );
+    let holders = most_holders(&laid.sides, &laid.pieces);
+    write_counts(text, laid.pieces.len(), deepest(&laid.pieces), holders)
 }
 
 // Writes the whole tree: the records stand in the order of the tree, a piece before its parts.
-pub fn write_tree(page: &mut Page, laid: &Laid)
-    ensures { GrownBy page.old page.new (tree_text laid.now) }
+pub fn write_tree(text: &mut String, laid: &Laid) -> Result<(), AllocError>
+    ensures { OnOk result (GrownBy text.old text.new (tree_text laid.now)) }
 {
     for (number, piece) in laid.pieces.iter().enumerate() {
-        write_piece(page, &laid.sides, number, *piece);
+        write_piece(text, &laid.sides, number, *piece)?;
     }
-}
-
-// What a fault of a link says, and the link's index.
-fn link_fault(fault: PlanFault) -> (&'static str, Option<usize>)
-    ensures why { result.0.now ≡ reason fault }
-    ensures index { result.1 ≡ faulty_link fault }
-{
-    match fault {
-        PlanFault::Terminals => ("a ring has 3 to 4096 terminals", None),
-        PlanFault::ShortArea => ("an area is too short", None),
-        PlanFault::BadEnds(i) => ("an end is no terminal, or the ends are equal", Some(i)),
-        PlanFault::Repeats(i) => ("it repeats an earlier link", Some(i)),
-        PlanFault::Crosses(i) => ("it crosses an earlier link", Some(i)),
-    }
+    Ok(())
 }
 
 // Writes the two ends of the link i, if there is such a link.
-fn write_link_ends(page: &mut Page, links: &[Link], i: usize)
-    ensures { GrownBy page.old page.new (link_ends_text links.now i) }
+fn write_link_ends(text: &mut String, links: &[Link], i: usize) -> Result<(), AllocError>
+    ensures { OnOk result (GrownBy text.old text.new (link_ends_text links.now i)) }
 {
-    if i < links.len() {
-        page.say(" (", links[i].from as usize, " ");
-        page.say("", links[i].to as usize, ")");
+    match links.get(i) {
+        Some(link) => write!(text, " ({} {})", link.from, link.to),
+        None => Ok(()),
     }
 }
 
 // Writes which link it is, if it is one.
-fn write_link(page: &mut Page, links: &[Link], index: Option<usize>)
-    ensures { GrownBy page.old page.new (link_text links.now index) }
+fn write_link(text: &mut String, links: &[Link], index: Option<usize>) -> Result<(), AllocError>
+    ensures { OnOk result (GrownBy text.old text.new (link_text links.now index)) }
 {
-    if let Some(i) = index {
-        page.say("link ", i, "");
-        write_link_ends(page, links, i);
-        page.word(": ");
-    }
+    let Some(i) = index else {
+        return Ok(());
+    };
+    write!(text, "link {i}")?;
+    write_link_ends(text, links, i)?;
+    write!(text, ": ")
 }
 
 // Writes why a plan is refused: the number, and the link with its index.
-pub fn write_fault(page: &mut Page, links: &[Link], fault: PlanFault)
-    ensures { GrownBy page.old page.new (fault_text links.now fault) }
+pub fn write_fault(text: &mut String, links: &[Link], fault: PlanFault) -> Result<(), AllocError>
+    ensures { OnOk result (GrownBy text.old text.new (fault_text links.now fault)) }
 {
-    let (why, index) = link_fault(fault);
-    page.say("refused, number ", fault.number() as usize, ": ");
-    write_link(page, links, index);
-    page.word(why);
-    page.word("\n");
+    write!(text, "refused, number {}: ", fault.number())?;
+    write_link(text, links, fault.link())?;
+    writeln!(text, "{fault}")
 }

@@ -1,23 +1,15 @@
 // The text of offers, line by line, and the table that is printed.
-ghost use Rattle.price.specs.Names.{Names};
-
+use offers::kinds::KindName;
 use offers::offer::{Refusal, price};
 use offers::written::Written;
 use rates::cents::Cents;
 use rates::many::{best_place, same};
 use rates::pair::Pair;
 use rates::tonnes::Tonnes;
-use std::alloc::{AllocError, AllocFailed, Global};
+use std::alloc::{AllocError, Global};
 use std::io;
 use std::io::{BufRead, BufReader};
-
-// A kind of rate, by its name in the text.
-#[derive(Clone, Copy)]
-pub enum KindName {
-    Cents,
-    Tonnes,
-    CentsBeforeTonnes,
-}
+use thiserror::Error;
 
 // One line of the text: its number from 1, and an offered trip.
 #[derive(Drop)]
@@ -26,50 +18,23 @@ pub struct Offer {
     text: String,
 }
 
-// Why a line has no price.
-#[derive(Clone, Copy)]
+// Why a line has no price. A lane is named by its number from 1.
+#[derive(Clone, Copy, Debug, Error)]
 pub enum Fault {
-    // The word at a place, counted from 0, is no number.
+    #[error("no number at lane {0}")]
     NoNumber(usize),
-    Refused(Refusal),
-    Memory,
+    #[error(transparent)]
+    Refused(#[from] Refusal),
+    #[error("out of memory")]
+    Memory(#[from(alloc)] AllocError),
 }
 
-impl From<AllocError> for Fault {
-    fn from(_e: AllocError) -> Fault {
-        Fault::Memory
-    }
-}
-
-impl<T: Drop> From<AllocFailed<T>> for Fault {
-    fn from(_e: AllocFailed<T>) -> Fault {
-        Fault::Memory
-    }
-}
-
-impl From<Refusal> for Fault {
-    fn from(e: Refusal) -> Fault {
-        Fault::Refused(e)
-    }
-}
-
-// A trip with its price.
+// A trip with its price, and its place among the trips that have one.
 #[derive(Clone, Copy)]
 pub struct Priced<R> {
+    place: usize,
     lanes: usize,
     rate: R,
-}
-
-// The kind that a line names, if it names one.
-fn kind_named(line: &str) -> Option<KindName>
-    ensures { Names line.now result }
-{
-    match line {
-        "cents" => Some(KindName::Cents),
-        "tonnes" => Some(KindName::Tonnes),
-        "cents before tonnes" => Some(KindName::CentsBeforeTonnes),
-        _ => None,
-    }
 }
 
 // The lane rates that a line writes.
@@ -78,48 +43,30 @@ fn read_lanes<R: Written>(heap: Global, text: &str) -> Result<Vec<R>, Fault> {
     for (i, word) in text.split_whitespace().enumerate() {
         match R::read(word) {
             Some(rate) => lanes.push(rate)?,
-            None => return Err(Fault::NoNumber(i)),
+            None => return Err(Fault::NoNumber(i.saturating_add(1))),
         }
     }
     Ok(lanes)
 }
 
-// The price of the trip that a line writes.
-fn price_line<R: Written>(heap: Global, text: &str) -> Result<Priced<R>, Fault> {
+// The price of the trip that a line writes, as the one at this place among those that have a price.
+fn price_line<R: Written>(heap: Global, text: &str, place: usize) -> Result<Priced<R>, Fault> {
     let lanes = read_lanes::<R>(heap, text)?;
     let rate = price(lanes.as_slice())?;
     Ok(Priced {
+        place,
         lanes: lanes.len(),
         rate,
     })
 }
 
-// What a clerk reads of a fault, and the place of the lane that is at fault, counted from 1, or 0.
-fn explain(fault: Fault) -> (&'static str, usize) {
-    match fault {
-        Fault::NoNumber(i) => ("no number at lane ", i.saturating_add(1)),
-        Fault::Refused(Refusal::NoLaneRate(i)) => (
-            "no lane rate of this kind at lane ",
-            i.saturating_add(1),
-        ),
-        Fault::Refused(Refusal::Empty) => ("no lanes: a trip has one at least", 0),
-        Fault::Refused(Refusal::TooMany) => ("too many lanes: a trip has 4095 at most", 0),
-        Fault::Memory => ("out of memory", 0),
-    }
-}
-
 // What is said of a priced trip, given the place of the best among all rates.
-fn remark<R: Written>(place: usize, rate: R, best: Option<usize>, rates: &[R]) -> &'static str {
-    let Some(at) = best else {
-        return "";
-    };
-    if place == at {
-        return "best";
+fn remark<R: Written>(priced: Priced<R>, best: Option<usize>, rates: &[R]) -> &'static str {
+    match best {
+        Some(at) if at == priced.place => "best",
+        Some(at) if rates.get(at).is_some_and(|rate| same(*rate, priced.rate)) => "as good",
+        _ => "",
     }
-    if at < rates.len() && same(rate, rates[at]) {
-        return "as good";
-    }
-    ""
 }
 
 // A trip with its price, or why it has none, and the line that offers it.
@@ -129,97 +76,78 @@ struct Row<R> {
     outcome: Result<Priced<R>, Fault>,
 }
 
-// The rows of all offers, in order.
-fn price_offers<R: Written>(heap: Global, offers: &[Offer]) -> Result<Vec<Row<R>>, AllocError> {
-    let mut rows = Vec::new(heap);
-    for offer in offers {
-        rows.push(Row {
-            line: offer.line,
-            outcome: price_line::<R>(heap, offer.text.as_str()),
-        })?;
-    }
-    Ok(rows)
+// The rows of all offers of a kind, in order, and the rates of those that have one.
+#[derive(Drop)]
+struct Table<R> {
+    rows: Vec<Row<R>>,
+    rates: Vec<R>,
 }
 
-// The rates of the rows that have one, in order.
-fn rates_of<R: Written>(heap: Global, rows: &[Row<R>]) -> Result<Vec<R>, AllocError> {
-    let mut rates = Vec::new(heap);
-    for row in rows {
-        if let Ok(priced) = row.outcome {
-            rates.push(priced.rate)?;
+impl<R: Written + Drop> Table<R> {
+    // Prices one more offer.
+    fn add(&mut self, heap: Global, offer: &Offer) -> Result<(), AllocError> {
+        let outcome = price_line::<R>(heap, offer.text.as_str(), self.rates.len());
+        if let Ok(priced) = &outcome {
+            self.rates.push(priced.rate)?;
         }
+        self.rows.push(Row {
+            line: offer.line,
+            outcome,
+        })?;
+        Ok(())
     }
-    Ok(rates)
-}
 
-fn print_priced<R: Written>(
-    rt: &HostRuntime,
-    line: usize,
-    priced: Priced<R>,
-    said: &str,
-) -> io::Result<()> {
-    let lanes = priced.lanes;
-    let rate = priced.rate.show(rt.alloc())?;
-    println!(rt; "{line:>4}  {lanes:>5}  {said:<8} {rate}")
-}
-
-fn print_fault(rt: &HostRuntime, line: usize, fault: Fault) -> io::Result<()> {
-    let (why, lane) = explain(fault);
-    let mut text = String::from_str(rt.alloc(), why)?;
-    if lane > 0 {
-        text.push_str(lane.to_string(rt.alloc())?.as_str())?;
-    }
-    println!(rt; "{line:>4}  {text}")
-}
-
-// Prints the table of a kind's offers, and then the best.
-fn report<R: Written>(rt: &HostRuntime, offers: &[Offer]) -> io::Result<()> {
-    let heap = rt.alloc();
-    let rows = price_offers::<R>(heap, offers)?;
-    let rates = rates_of(heap, rows.as_slice())?;
-    rt.println("line  lanes           rate")?;
-    let best = best_place(rates.as_slice());
-    let mut place = 0usize;
-    for row in rows.iter() {
+    fn print_row(&self, rt: &HostRuntime, row: Row<R>, best: Option<usize>) -> io::Result<()> {
         let line = row.line;
         match row.outcome {
             Ok(priced) => {
-                print_priced(
-                    rt,
-                    line,
-                    priced,
-                    remark(place, priced.rate, best, rates.as_slice()),
-                )?;
-                place = place.saturating_add(1);
+                let lanes = priced.lanes;
+                let said = remark(priced, best, self.rates.as_slice());
+                let rate = priced.rate;
+                println!(rt; "{line:>4}  {lanes:>5}  {said:<8} {rate}")
             }
-            Err(fault) => print_fault(rt, line, fault)?,
+            Err(fault) => println!(rt; "{line:>4}  {fault}"),
         }
+    }
+}
+
+// Prices the offers of a kind, and prints the table.
+fn report<R: Written + Drop>(rt: &HostRuntime, offers: &[Offer]) -> io::Result<()> {
+    let heap = rt.alloc();
+    let mut table = Table::<R> {
+        rows: Vec::new(heap),
+        rates: Vec::new(heap),
+    };
+    for offer in offers {
+        table.add(heap, offer)?;
+    }
+    rt.println("line  lanes           rate")?;
+    let best = best_place(table.rates.as_slice());
+    for row in table.rows.iter() {
+        table.print_row(rt, *row, best)?;
+    }
+    Ok(())
+}
+
+// Says of each offer that no kind of rate is named.
+fn report_kindless(rt: &HostRuntime, offers: &[Offer]) -> io::Result<()> {
+    for offer in offers {
+        let line = offer.line;
+        println!(rt; "line {line}: no kind of rate is named yet")?;
     }
     Ok(())
 }
 
 // The offers of one kind, or of none, where no kind has been named yet.
 fn report_group(rt: &HostRuntime, kind: Option<KindName>, offers: &[Offer]) -> io::Result<()> {
+    let Some(kind) = kind else {
+        return report_kindless(rt, offers);
+    };
+    println!(rt; "rates in {kind}")?;
     match kind {
-        None => {
-            for offer in offers {
-                let line = offer.line;
-                println!(rt; "line {line}: no kind of rate is named yet")?;
-            }
-            Ok(())
-        }
-        Some(KindName::Cents) => {
-            rt.println("rates in cents")?;
-            report::<Cents>(rt, offers)
-        }
-        Some(KindName::Tonnes) => {
-            rt.println("rates in tonnes")?;
-            report::<Tonnes>(rt, offers)
-        }
-        Some(KindName::CentsBeforeTonnes) => {
-            rt.println("rates in cents before tonnes")?;
-            report::<Pair<Cents, Tonnes>>(rt, offers)
-        }
+        KindName::Cents => report::<Cents>(rt, offers),
+        KindName::Tonnes => report::<Tonnes>(rt, offers),
+        KindName::CentsBeforeTonnes => report::<Pair<Cents, Tonnes>>(rt, offers),
     }
 }
 
@@ -228,17 +156,16 @@ pub(crate) fn run(rt: &HostRuntime) -> io::Result<()> {
     let heap = rt.alloc();
     let mut kind = None;
     let mut offers = Vec::new(heap);
-    let mut line = 0usize;
-    for text in BufReader::new(heap, rt.stdin())?.lines(heap) {
+    let lines = BufReader::new(heap, rt.stdin())?.lines(heap);
+    for (text, line) in lines.zip(1usize..usize::MAX) {
         let text = text?;
-        line = line.saturating_add(1);
-        match kind_named(text.as_str()) {
-            Some(next) => {
+        match text.parse::<KindName>() {
+            Ok(next) => {
                 report_group(rt, kind, offers.as_slice())?;
                 offers.clear();
                 kind = Some(next);
             }
-            None => offers.push(Offer { line, text })?,
+            Err(_) => offers.push(Offer { line, text })?,
         }
     }
     report_group(rt, kind, offers.as_slice())

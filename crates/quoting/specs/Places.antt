@@ -1,16 +1,19 @@
 -- Lines and their climbs by places of sheets in place of terminals.
 -- Assumes nothing: a place past the end of a sheet or a line reads none.
-use Rattle.std.specs.Prelude.{ℕ, Bool, false, cond, List, [], ◌∷◌, length, nat_lt, slice_index, slice_index_or}
+use Rattle.std.specs.Prelude.{◌≡◌, ℕ, ◌+◌, ◌*◌, ◌<◌, ◌≤◌, Bool, false, cond, ◌&&◌, Some, None, Option, List, [], ◌∷◌, length, nat_lt, slice_index, slice_index_or}
 use Rattle.rates.specs.Kinds.{Kind}
 use Rattle.rates.specs.Many.{better_of}
 use Rattle.records.specs.declared.Piece.{Piece}
-use Rattle.records.specs.Few.{listed}
+use Rattle.records.specs.Few.{listed, Among, FirstPlace}
 use Rattle.pieces.specs.Sides.{Ends}
 use Rattle.pieces.specs.Holding.{piece_at}
 use Rattle.piece_rates.specs.Climbing.{place, among}
 use Rattle.piece_rates.specs.Sheets.{sheet_of}
+use Rattle.sheets.specs.Triangles.{triangle_best}
+use Rattle.sheets.specs.declared.leaf.Triangle.{Triangle}
 use Rattle.climbing.specs.Lines.{turned, cells}
 use Rattle.climbing.specs.Steps.{across_of, seam_of_piece}
+use Rattle.climbing.specs.Ways.{between, outside}
 use Rattle.quoting.specs.declared.lines.Line.{Line}
 use Rattle.quoting.specs.declared.steps.Half.{Half}
 use Rattle.quoting.specs.declared.steps.Step.{Step}
@@ -19,6 +22,17 @@ use Rattle.quoting.specs.declared.steps.Step.{Step}
 abbrev pub shown : {V M : Type 0} → (V → M) → Line V → List M
 shown means l =
     means l.r0 ∷ means l.r1 ∷ means l.r2 ∷ means l.r3 ∷ means l.r4 ∷ means l.r5 ∷ means l.r6 ∷ means l.r7 ∷ []
+
+-- where u and v stand in the list; none where one of them is missing
+abbrev pub BothPlaces : List ℕ → ℕ → ℕ → Option (ℕ × ℕ) → Type 0
+BothPlaces xs u v (Some k) = FirstPlace xs u k.0 × FirstPlace xs v k.1
+BothPlaces xs u v None = Among u xs × Among v xs → ⊥
+
+-- the child of P on the side of both u and v; none where they lie apart
+abbrev pub common_child : Ends → Piece → ℕ → ℕ → Option ℕ
+common_child e P u v =
+    cond (between (e.low P.seam) (e.high P.seam) u && between (e.low P.seam) (e.high P.seam) v) (Some P.first)
+    (cond (outside (e.low P.seam) (e.high P.seam) u && outside (e.low P.seam) (e.high P.seam) v) (Some P.second) None)
 
 -- the piece p on one side of the seam from x to y
 abbrev pub half_at : List Piece → ℕ → ℕ → ℕ → Half
@@ -35,42 +49,52 @@ step_at e ps p = record {
 }
 
 module _ {M : Type 0} (K : Kind M) where
+  -- a line holds the rate f k at each of its places k
+  pub record IsLineOf (line : List M) (f : ℕ → M) : Type 0 where
+    pub short : length line ≤ 8
+    pub places : (k : ℕ) → k < 8 → slice_index_or line k K.none ≡ f k
+
   -- the rate between the edge terminals i and j of the piece p
   abbrev pub cell_at : List M → ℕ → Bool → ℕ → ℕ → M
   cell_at sheets p into i j = turned into (cells K (sheet_of K sheets p)) i j
 
-  -- to an end of the seam, given by its places in the piece climbed from and in the piece q across
-  abbrev pub to_end_at : List M → List M → ℕ → Bool → ℕ × ℕ → ℕ × ℕ → M
-  to_end_at line sheets q into to round =
-      better_of K (slice_index_or line to.0 K.none) (K.join (slice_index_or line round.0 K.none) (cell_at sheets q into round.1 to.1))
-
+  -- to an end of the seam: straight, or to the other end and back through the piece across
   abbrev pub to_low_at : List M → List M → Step → Bool → M
-  to_low_at line sheets s into = to_end_at line sheets s.across.piece into (s.own.low, s.across.low) (s.own.high, s.across.high)
+  to_low_at line sheets s into =
+      better_of K (slice_index_or line s.own.low K.none) (K.join (slice_index_or line s.own.high K.none) (cell_at sheets s.across.piece into s.across.high s.across.low))
 
   abbrev pub to_high_at : List M → List M → Step → Bool → M
-  to_high_at line sheets s into = to_end_at line sheets s.across.piece into (s.own.high, s.across.high) (s.own.low, s.across.low)
+  to_high_at line sheets s into =
+      better_of K (slice_index_or line s.own.high K.none) (K.join (slice_index_or line s.own.low K.none) (cell_at sheets s.across.piece into s.across.low s.across.high))
+
+  -- by either end of the seam, at the rates low and high to them and a and b on from them
+  abbrev pub by_ends_at : M → M → M → M → M
+  by_ends_at low high a b = better_of K (K.join low a) (K.join high b)
 
   -- by either end of the seam to the edge terminal k of a piece beside it
-  abbrev pub by_ends_at : M → M → List M → Half → Bool → ℕ → M
-  by_ends_at low high sheets h into k =
-      better_of K (K.join low (cell_at sheets h.piece into h.low k)) (K.join high (cell_at sheets h.piece into h.high k))
+  abbrev pub by_half_at : M → M → List M → Half → Bool → ℕ → M
+  by_half_at low high sheets h into k = by_ends_at low high (cell_at sheets h.piece into h.low k) (cell_at sheets h.piece into h.high k)
 
-  -- by either end of the seam and on by a line at a piece beside it
-  abbrev pub by_line_at : M → M → Half → List M → M
-  by_line_at low high h line = better_of K (K.join low (slice_index_or line h.low K.none)) (K.join high (slice_index_or line h.high K.none))
-
-  -- to the edge terminal t of the piece climbed to
+  -- to the edge terminal t of the piece climbed to; none where neither piece beside the seam has it
   abbrev pub climb_at : List M → List M → Step → Bool → M → M → ℕ → M
   climb_at line sheets s into low high t =
       cond (among (listed s.own.edges) t)
-      (better_of K (slice_index_or line (place (listed s.own.edges) t) K.none) (by_ends_at low high sheets s.own into (place (listed s.own.edges) t)))
-      (by_ends_at low high sheets s.across into (place (listed s.across.edges) t))
+      (better_of K (slice_index_or line (place (listed s.own.edges) t) K.none) (by_half_at low high sheets s.own into (place (listed s.own.edges) t)))
+      (cond (among (listed s.across.edges) t) (by_half_at low high sheets s.across into (place (listed s.across.edges) t)) K.none)
+
+  -- to its edge terminal k; none past the last
+  abbrev pub climb_place_at : List M → List M → Step → Bool → M → M → ℕ → M
+  climb_place_at line sheets s into low high k = cond (nat_lt k (length (listed s.edges))) (climb_at line sheets s into low high (slice_index (listed s.edges) k)) K.none
 
   -- place k of the line climbed to
   abbrev pub climbed_at : List M → List M → Step → Bool → ℕ → M
-  climbed_at line sheets s into k =
-      cond (nat_lt k (length (listed s.edges))) (climb_at line sheets s into (to_low_at line sheets s into) (to_high_at line sheets s into) (slice_index (listed s.edges) k)) K.none
+  climbed_at line sheets s into k = climb_place_at line sheets s into (to_low_at line sheets s into) (to_high_at line sheets s into) k
 
   -- between two lines by the seam; the second is at a piece beside it
   abbrev pub by_seam_at : List M → List M → Step → Half → List M → M
-  by_seam_at row sheets s there column = by_line_at (to_low_at row sheets s false) (to_high_at row sheets s false) there column
+  by_seam_at row sheets s there column =
+      by_ends_at (to_low_at row sheets s false) (to_high_at row sheets s false) (slice_index_or column there.low K.none) (slice_index_or column there.high K.none)
+
+-- the best rate within a triangle between u and the edge terminal k; none past the last
+abbrev pub triangle_place_at : {V M : Type 0} → Kind M → (V → M) → Triangle V → List ℕ → Bool → ℕ → ℕ → M
+triangle_place_at K means t edges into u k = cond (nat_lt k (length edges)) (turned into (triangle_best K means t) u (slice_index edges k)) K.none

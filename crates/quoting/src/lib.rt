@@ -2,6 +2,7 @@
 #![tactic(auto)]
 
 mod areas;
+mod climbs;
 mod lines;
 mod passes;
 mod steps;

@@ -1,117 +1,105 @@
 // The best rate from one terminal to another within a piece.
-ghost use Rattle.std.specs.Prelude.{◌≡◌, ℕ, ◌+◌, ◌*◌, ◌<◌, true, false, map};
+ghost use Rattle.std.specs.Prelude.{◌≡◌, ℕ, ◌+◌, ◌*◌, ◌<◌};
 ghost use Rattle.trips.specs.Trips.{BestRate, LaneMap};
-ghost use Rattle.pieces.specs.Sides.{ends_of};
-ghost use Rattle.pieces.specs.Holding.{piece_at};
-ghost use Rattle.piece_rates.specs.Sheets.{sheet_of};
-ghost use Rattle.piece_rates.specs.Sizes.{Within};
-ghost use Rattle.climbing.specs.Lines.{LineShows};
-ghost use Rattle.climbing.specs.Steps.{lanes_of};
-ghost use Rattle.climbing.specs.Ways.{Ending, Parts, Reaches};
-ghost use Rattle.quoting.specs.Areas.{BestWithin, PlanInOrder, TouchesPiece};
-ghost use Rattle.quoting.specs.Places.{by_seam_at, shown};
+ghost use Rattle.climbing.specs.Ways.{Ending};
+ghost use Rattle.quoting.specs.Areas.{BestWithin, piece_of, PartsFrom, PlanInOrder, ReachesFrom, TouchesPiece};
+ghost use Rattle.quoting.specs.Climbs.{IsStepFrom, KnownAt};
 
-use crate::areas::{Areas, cell_of};
-use crate::lines::{Line, by_line, climb, line_at, to_end};
-use crate::steps::{Half, Step, step_from};
-use crate::walks::{MOST_STEPS, both_on_edge, child_towards, ends_there, parting_below};
+use crate::areas::Areas;
+use crate::climbs::{climbed, line_at};
+use crate::lines::{Direction, Line};
+use crate::steps::{Step, places_of, step_from};
+use crate::walks::{child_towards, ends_there, parting_below};
+use holders::MOST_HOLDERS;
 use rates::kind::Rate;
 use rates::many::better_of_two;
-use sheets::{leaf_entry, piece_at, place_of, triangle_on};
+use sheets::{leaf_entry, triangle_on};
 
-// From one terminal to another by the seam, where the second line is at a piece beside it.
-fn by_seam<R: Rate>(step: Step, sheets: &[R], row: Line<R>, there: Half, column: Line<R>) -> R
-    ensures { Within R.kind (shown R.means row) → Within R.kind (shown R.means column) → Within R.kind (sheet_of R.kind (map R.means sheets.now) step.across.piece) → R.means result ≡ by_seam_at R.kind (shown R.means row) (map R.means sheets.now) step there (shown R.means column) }
-{
-    let q = step.across.piece;
-    let x = (step.own.low, step.across.low);
-    let y = (step.own.high, step.across.high);
-    let low = to_end(row, sheets, q, false, x, y);
-    let high = to_end(row, sheets, q, false, y, x);
-    by_line(low, high, there, column)
+// What is known of two terminals at a piece: the line of the first, the line into the second, and the best rate between them.
+#[derive(Clone, Copy)]
+pub struct Known<R> {
+    pub row: Line<R>,
+    pub column: Line<R>,
+    pub best: R,
 }
 
-// The best rate at the piece `stop` from what is known at a piece at or below it: the line of the first terminal, the line into
-// the second, and the best rate between them.
-fn pass_to<R: Rate>(
-    areas: Areas<'_, R>,
-    from: u16,
-    stop: u16,
-    first: Line<R>,
-    last: Line<R>,
-    known: R,
-) -> R
-    ensures { (n : ℕ) (m : LaneMap R.Member) (u v : ℕ) → PlanInOrder R.kind R.means areas.entry n m → Reaches n (ends_of areas.entry.records.sides.now) areas.entry.records.pieces.now stop u from → Reaches n (ends_of areas.entry.records.sides.now) areas.entry.records.pieces.now stop v from → LineShows R.kind n (ends_of areas.entry.records.sides.now) (piece_at areas.entry.records.pieces.now from) m false u (shown R.means first) → LineShows R.kind n (ends_of areas.entry.records.sides.now) (piece_at areas.entry.records.pieces.now from) m true v (shown R.means last) → BestRate R.kind (lanes_of R.kind n (ends_of areas.entry.records.sides.now) areas.entry.records.pieces.now m from) u v (R.means known) → BestRate R.kind (lanes_of R.kind n (ends_of areas.entry.records.sides.now) areas.entry.records.pieces.now m stop) u v (R.means result) }
+// What is known at the piece climbed to: a trip that leaves the piece climbed from does so by the seam.
+fn known_above<R: Rate>(areas: Areas<'_, R>, step: Step, known: Known<R>) -> Known<R>
+    ensures { (n : ℕ) (m : LaneMap R.Member) (p u v : ℕ) → PlanInOrder R.kind R.means areas.entry n m → 0 < p → p + 5 < 2 * n → IsStepFrom areas.entry p step → TouchesPiece areas.entry n p u → TouchesPiece areas.entry n p v → KnownAt R.kind R.means areas.entry n m p u v known → KnownAt R.kind R.means areas.entry n m step.up u v result }
+{
+    let round = step.by_seam(areas, known.row, step.own, known.column);
+    Known {
+        row: climbed(areas, step, Direction::From, known.row),
+        column: climbed(areas, step, Direction::Into, known.column),
+        best: better_of_two(known.best, round),
+    }
+}
+
+// The best rate at the piece `stop` from what is known at a piece at or below it.
+fn pass_to<R: Rate>(areas: Areas<'_, R>, from: u16, stop: u16, known: Known<R>) -> R
+    ensures { (n : ℕ) (m : LaneMap R.Member) (u v : ℕ) → PlanInOrder R.kind R.means areas.entry n m → ReachesFrom areas.entry n stop u from → ReachesFrom areas.entry n stop v from → KnownAt R.kind R.means areas.entry n m from u v known → BestWithin R.kind R.means areas.entry n m stop u v result }
 {
     let mut p = from;
-    let mut row = first;
-    let mut column = last;
-    let mut best = known;
-    for _ in 0..MOST_STEPS {
+    let mut reached = known;
+    for _ in 0..MOST_HOLDERS {
         if p == stop {
-            return best;
+            return reached.best;
         }
-        let step = step_from(areas.records.sides, areas.records.pieces, p);
-        best = better_of_two(best, by_seam(step, areas.sheets, row, step.own, column));
-        row = climb(step, areas.sheets, false, row);
-        column = climb(step, areas.sheets, true, column);
+        let Some(step) = step_from(areas.records, p) else {
+            return reached.best;
+        };
+        reached = known_above(areas, step, reached);
         p = step.up;
     }
-    best
+    reached.best
 }
 
 // The best rate within a piece that has both terminals as edge terminals or is a single triangle.
 fn near_rate<R: Rate>(areas: Areas<'_, R>, p: u16, from: u16, to: u16) -> R
-    ensures { (n : ℕ) (m : LaneMap R.Member) → PlanInOrder R.kind R.means areas.entry n m → p + 5 < 2 * n → Ending (piece_at areas.entry.records.pieces.now p) from to → BestRate R.kind (lanes_of R.kind n (ends_of areas.entry.records.sides.now) areas.entry.records.pieces.now m p) from to (R.means result) }
+    ensures { (n : ℕ) (m : LaneMap R.Member) → PlanInOrder R.kind R.means areas.entry n m → p + 5 < 2 * n → Ending (piece_of areas.entry p) from to → BestWithin R.kind R.means areas.entry n m p from to result }
 {
-    let piece = piece_at(areas.records.pieces, p);
-    if both_on_edge(piece, from, to) {
-        cell_of(
-            areas.sheets,
-            p,
-            false,
-            place_of(piece.edges, from),
-            place_of(piece.edges, to),
-        )
-    } else {
-        leaf_entry(
-            triangle_on(areas.records.sides, areas.lanes, piece.top),
-            from,
-            to,
-        )
+    let piece = areas.records.piece(p);
+    match places_of(piece.edges, from, to) {
+        Some((i, j)) => areas.cell(p, Direction::From, i, j),
+        None => {
+            let t = triangle_on(areas.records.sides, areas.lanes, piece.top);
+            leaf_entry(t, from, to)
+        }
     }
 }
 
 // The best rate at the piece `stop`, by way of a piece below it at which the way down towards both terminals ends.
 fn joined_rate<R: Rate>(areas: Areas<'_, R>, p: u16, stop: u16, from: u16, to: u16) -> R
-    ensures { (n : ℕ) (m : LaneMap R.Member) → PlanInOrder R.kind R.means areas.entry n m → Parts n (ends_of areas.entry.records.sides.now) areas.entry.records.pieces.now stop from to p → Ending (piece_at areas.entry.records.pieces.now p) from to → BestRate R.kind (lanes_of R.kind n (ends_of areas.entry.records.sides.now) areas.entry.records.pieces.now m stop) from to (R.means result) }
+    ensures { (n : ℕ) (m : LaneMap R.Member) → PlanInOrder R.kind R.means areas.entry n m → PartsFrom areas.entry n stop from to p → Ending (piece_of areas.entry p) from to → BestWithin R.kind R.means areas.entry n m stop from to result }
 {
-    let known = near_rate(areas, p, from, to);
+    let best = near_rate(areas, p, from, to);
     if p == stop {
-        return known;
+        return best;
     }
-    let row = line_at(areas, p, false, from);
-    let column = line_at(areas, p, true, to);
-    pass_to(areas, p, stop, row, column, known)
+    let row = line_at(areas, p, Direction::From, from);
+    let column = line_at(areas, p, Direction::Into, to);
+    pass_to(areas, p, stop, Known { row, column, best })
 }
 
 // The best rate at the piece `stop`, by way of a piece below it that is parted between the two terminals.
 fn parted_rate<R: Rate>(areas: Areas<'_, R>, p: u16, stop: u16, from: u16, to: u16) -> R
-    ensures { (n : ℕ) (m : LaneMap R.Member) → PlanInOrder R.kind R.means areas.entry n m → Parts n (ends_of areas.entry.records.sides.now) areas.entry.records.pieces.now stop from to p → (Ending (piece_at areas.entry.records.pieces.now p) from to → ⊥) → BestRate R.kind (lanes_of R.kind n (ends_of areas.entry.records.sides.now) areas.entry.records.pieces.now m stop) from to (R.means result) }
+    ensures { (n : ℕ) (m : LaneMap R.Member) → PlanInOrder R.kind R.means areas.entry n m → PartsFrom areas.entry n stop from to p → (Ending (piece_of areas.entry p) from to → ⊥) → BestWithin R.kind R.means areas.entry n m stop from to result }
 {
-    let own = child_towards(areas.records.sides, piece_at(areas.records.pieces, p), from);
-    let near = step_from(areas.records.sides, areas.records.pieces, own);
-    let far = step_from(areas.records.sides, areas.records.pieces, near.across.piece);
-    let row = line_at(areas, own, false, from);
-    let column = line_at(areas, near.across.piece, true, to);
-    pass_to(
-        areas,
-        p,
-        stop,
-        climb(near, areas.sheets, false, row),
-        climb(far, areas.sheets, true, column),
-        by_seam(near, areas.sheets, row, near.across, column),
-    )
+    let own = child_towards(areas.records, areas.records.piece(p), from);
+    let Some(near) = step_from(areas.records, own) else {
+        return R::none();
+    };
+    let Some(far) = step_from(areas.records, near.across.piece) else {
+        return R::none();
+    };
+    let row = line_at(areas, own, Direction::From, from);
+    let column = line_at(areas, near.across.piece, Direction::Into, to);
+    let known = Known {
+        row: climbed(areas, near, Direction::From, row),
+        column: climbed(areas, far, Direction::Into, column),
+        best: near.by_seam(areas, row, near.across, column),
+    };
+    pass_to(areas, p, stop, known)
 }
 
 // The best rate of the trips from one terminal of the piece `stop` to another over the lanes of that piece.
@@ -121,8 +109,8 @@ pub fn best_within<R: Rate>(areas: Areas<'_, R>, stop: u16, from: u16, to: u16) 
     if from == to {
         return R::still();
     }
-    let p = parting_below(areas.records.sides, areas.records.pieces, stop, from, to);
-    if ends_there(piece_at(areas.records.pieces, p), from, to) {
+    let p = parting_below(areas.records, stop, from, to);
+    if ends_there(areas.records.piece(p), from, to) {
         joined_rate(areas, p, stop, from, to)
     } else {
         parted_rate(areas, p, stop, from, to)

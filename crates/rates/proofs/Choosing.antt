@@ -1,6 +1,6 @@
 -- Tests on rates, and the steps of a loop that joins or compares a list of them.
 -- Assumes the laws.
-use Rattle.std.proofs.Common.{◌≡◌, ℕ, ◌+◌, ◌<◌, ◌≤◌, Bool, true, false, not, ◌||◌, List, [], ◌∷◌, ◌++◌, map, length, get_or, take, Decides, sym, refl, ap, ◌∙◌, subst, inl, inr, ⊎_elim, arith, below_more}
+use Rattle.std.proofs.Common.{◌≡◌, ◌⊎◌, ℕ, ◌+◌, ◌<◌, ◌≤◌, Bool, true, false, not, ◌||◌, List, [], ◌∷◌, ◌++◌, map, length, get_or, take, Decides, sym, refl, ap, ◌∙◌, subst, inl, inr, ⊎_elim, arith, below_more}
 use Rattle.std.specs.List.{ContainsAt}
 use Rattle.std.proofs.lemmas.List.{map_more, get_or-map}
 use Rattle.std.proofs.ByRecursion.{All-push, All-weaker, has_push, has_append_left}
@@ -8,6 +8,14 @@ use Rattle.std.proofs.lemmas.Bool.{not-true, not_from_false, or_parts}
 use Rattle.rates.specs.Kinds.{Kind, Laws, NoWorse, exact_size}
 use Rattle.rates.specs.Many.{better_of, joined_all, sizes, BestOf, FirstBest}
 use Rattle.rates.specs.Order.{le_refl, le_better, better_le, le_from, le_trans, le_none, same, join_still, better_of_first, better_of_second, better_of_greatest, better_of_either}
+
+-- before the first turn the place is 0, and later that of the first best
+abbrev pub FirstSoFar : {M V : Type 0} → Kind M → (V → M) → List V → ℕ → ℕ → Type 0
+FirstSoFar K means vs i k = ((i ≡ 0) × (k ≡ 0)) ⊎ FirstBest K (map means vs) i k
+
+-- the value at a place is that at an equal place
+pub stands_there : {V : Type 0} (vs : List V) (i k : ℕ) (v b : V) → b ≡ v → k ≡ i → v ≡ get_or vs i v → b ≡ get_or vs k b
+stands_there vs i k v b e f h = subst (λ x. x ≡ get_or vs k x) (sym e) (subst (λ j. v ≡ get_or vs j v) (sym f) h)
 
 module _ {M : Type 0} (K : Kind M) (X : Laws K) where
   pub decides_none : (a : M) (r : Bool) → r ≡ K.better a K.none → Decides (not r) (a ≡ K.none)
@@ -117,3 +125,18 @@ module _ {M : Type 0} (K : Kind M) (X : Laws K) where
 
     pub first_best_stays : (vs : List V) (i k : ℕ) (v w : V) (r : Bool) → i < length vs → k < length vs → v ≡ get_or vs i v → w ≡ get_or vs k w → r ≡ K.better (means v) (means w) → r ≡ false → FirstBest K (map means vs) i k → FirstBest K (map means vs) (i + 1) k
     first_best_stays vs i k v w r l m e f t z h = first_stays (map means vs) i k h (tested vs i k v w r l m e f t ∙ z)
+
+    pub moves_so_far : (vs : List V) (i k : ℕ) (v w : V) (r : Bool) → i < length vs → k < length vs → v ≡ get_or vs i v → w ≡ get_or vs k w → r ≡ K.better (means v) (means w) → r ≡ true → FirstSoFar K means vs i k → FirstSoFar K means vs (i + 1) i
+    moves_so_far vs i k v w r l m e f t z h =
+        inr (⊎_elim
+        (λ s. subst (λ j. FirstBest K (map means vs) (j + 1) j) (sym s.0) (first_best_0 vs))
+        (first_best_moves vs i k v w r l m e f t z) h)
+
+    pub stays_so_far : (vs : List V) (i k : ℕ) (v w : V) (r : Bool) → i < length vs → k < length vs → v ≡ get_or vs i v → w ≡ get_or vs k w → r ≡ K.better (means v) (means w) → r ≡ false → FirstSoFar K means vs i k → FirstSoFar K means vs (i + 1) k
+    stays_so_far vs i k v w r l m e f t z h =
+        inr (⊎_elim
+        (λ s. subst (λ j. FirstBest K (map means vs) (j + 1) k) (sym s.0) (subst (FirstBest K (map means vs) 1) (sym s.1) (first_best_0 vs)))
+        (first_best_stays vs i k v w r l m e f t z) h)
+
+    pub so_far_at_last : (vs : List V) (k : ℕ) → 0 < length vs → FirstSoFar K means vs (length vs) k → FirstBest K (map means vs) (length vs) k
+    so_far_at_last vs k l h = ⊎_elim (λ s. absurd (omega (arith, s.0))) (λ b. b) h

@@ -9,3 +9,4 @@ pub mod PairLaws
 pub mod Such
 pub mod Order
 pub mod LoadLaws
+pub mod Texts

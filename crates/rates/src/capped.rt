@@ -2,7 +2,7 @@
 ghost use Rattle.std.specs.Prelude.{◌≡◌, ◌<◌, cond, T, MatchOption, nat_le};
 
 // At most 1,000,000,000 tonnes, by its type.
-#[derive(Clone, Copy)]
+#[derive(Clone, Copy, Debug)]
 pub struct Capped {
     tonnes: u32,
     ghost within: { T (nat_le tonnes 1000000000) },

@@ -1,13 +1,15 @@
 // Cents: a whole number, negative for a credit, or none.
-ghost use Rattle.std.specs.Prelude.{◌≡◌, ℕ, ◌+◌, ◌≤◌};
+ghost use Rattle.std.specs.Prelude.{◌≡◌, Some, refl, ℕ, ◌+◌, ◌≤◌};
 ghost use Rattle.rates.specs.Kinds.{exact_size};
 ghost use Rattle.rates.specs.Amounts.{Amount, cents_kind, held};
 ghost use Rattle.rates.specs.Meanings.{amount_of};
 ghost use Rattle.rates.specs.AmountLaws.{cents_laws, cents_strict};
+ghost use Rattle.rates.specs.Texts.{cents_text};
 
 use crate::kind::{Rate, Strict};
+use std::fmt;
 
-#[derive(Clone, Copy)]
+#[derive(Clone, Copy, Debug)]
 pub enum Cents {
     None,
     Whole(i64),
@@ -16,6 +18,8 @@ pub enum Cents {
 impl Rate for Cents {
     const L: u64 = 1_000_000_000;
 
+    ghost L = { 1000000000 };
+
     ghost Member = { Amount };
 
     ghost kind = { cents_kind };
@@ -23,6 +27,8 @@ impl Rate for Cents {
     ghost means = { amount_of };
 
     ghost laws = { cents_laws };
+
+    ghost limited = { refl };
 
     fn still() -> Cents {
         Self::Whole(0)
@@ -56,12 +62,19 @@ impl Rate for Cents {
             Cents::Whole(a) => -1_000_000_000 <= a && a <= 1_000_000_000,
         }
     }
-
-    fn lane_limit() -> u64 {
-        Self::L
-    }
 }
 
 impl Strict for Cents {
     ghost strictness = { cents_strict };
+}
+
+impl fmt::Display for Cents {
+    ghost output = { λ rate. Some (cents_text rate) };
+
+    fn fmt<W: fmt::Write>(&self, f: &mut fmt::Formatter<W>) -> fmt::Result {
+        match self {
+            Cents::None => write!(f, "none"),
+            Cents::Whole(number) => write!(f, "{number}"),
+        }
+    }
 }

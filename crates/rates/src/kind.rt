@@ -6,6 +6,8 @@ pub trait Rate: Copy {
     // The size that no lane rate exceeds.
     const L: u64;
 
+    ghost L: { ℕ };
+
     // The set that values stand for.
     ghost Member: { Type 0 };
 
@@ -33,11 +35,10 @@ pub trait Rate: Copy {
     fn is_lane_rate(self) -> bool
         ensures { result ≡ kind.lane (means self) };
 
-    // The constant `L`, which no clause can name.
-    fn lane_limit() -> u64
-        ensures { result ≡ kind.limit };
-
     ghost laws: { Laws kind };
+
+    // The constant is the kind's bound on the sizes of lane rates.
+    ghost limited: { L ≡ kind.limit };
 }
 
 // A kind whose joins keep a strict order strict, so that it can come first in a pair.

@@ -52,14 +52,13 @@ pub fn best_of_all<R: Rate>(rates: &[R]) -> R
 pub fn best_place<R: Rate>(rates: &[R]) -> Option<usize>
     ensures { MatchOption result (length rates.now ≡ 0) (FirstBest R.kind (map R.means rates.now) (length rates.now)) }
 {
-    if rates.is_empty() {
-        return None;
-    }
-    let mut best = 0;
-    for i in 1..rates.len() {
-        if rates[i].better(rates[best]) {
-            best = i;
+    let mut best = *rates.first()?;
+    let mut place = 0;
+    for (i, rate) in rates.iter().enumerate() {
+        if rate.better(best) {
+            best = *rate;
+            place = i;
         }
     }
-    Some(best)
+    Some(place)
 }

@@ -1,13 +1,15 @@
 // Tonnes: how much a lane or a trip can carry, or unlimited. None is 0 tonnes.
-ghost use Rattle.std.specs.Prelude.{◌≡◌};
+ghost use Rattle.std.specs.Prelude.{◌≡◌, Some, refl};
 ghost use Rattle.rates.specs.Loads.{Load, tonnes_kind};
 ghost use Rattle.rates.specs.Meanings.{load_of};
 ghost use Rattle.rates.specs.LoadLaws.{tonnes_laws};
+ghost use Rattle.rates.specs.Texts.{tonnes_text};
 
 use crate::capped::Capped;
 use crate::kind::Rate;
+use std::fmt;
 
-#[derive(Clone, Copy)]
+#[derive(Clone, Copy, Debug)]
 pub enum Tonnes {
     UpTo(Capped),
     Unlimited,
@@ -16,6 +18,8 @@ pub enum Tonnes {
 impl Rate for Tonnes {
     const L: u64 = 0;
 
+    ghost L = { 0 };
+
     ghost Member = { Load };
 
     ghost kind = { tonnes_kind };
@@ -23,6 +27,8 @@ impl Rate for Tonnes {
     ghost means = { load_of };
 
     ghost laws = { tonnes_laws };
+
+    ghost limited = { refl };
 
     fn still() -> Tonnes {
         Tonnes::Unlimited
@@ -52,8 +58,15 @@ impl Rate for Tonnes {
             Tonnes::Unlimited => false,
         }
     }
+}
 
-    fn lane_limit() -> u64 {
-        Self::L
+impl fmt::Display for Tonnes {
+    ghost output = { λ rate. Some (tonnes_text rate) };
+
+    fn fmt<W: fmt::Write>(&self, f: &mut fmt::Formatter<W>) -> fmt::Result {
+        match self {
+            Tonnes::Unlimited => write!(f, "unlimited"),
+            Tonnes::UpTo(capped) => write!(f, "{}", capped.tonnes()),
+        }
     }
 }

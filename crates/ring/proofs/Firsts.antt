@@ -1,14 +1,18 @@
 -- The first fault of a plan: the checks one after the other.
 -- Assumes nothing.
-use Rattle.std.proofs.Common.{◌≡◌, ℕ, ◌+◌, ◌*◌, ◌<◌, ◌≤◌, ◌⊎◌, List, length, Ok, Err, Result, subst, inl, inr, ⊎_elim, arith}
+use Rattle.std.proofs.Common.{◌≡◌, ℕ, suc, ◌+◌, ◌*◌, ◌<◌, ◌≤◌, ◌⊎◌, List, ◌∷◌, ◌++◌, length, take, drop, Ok, Err, Result, sym, subst, inl, inr, ⊎_elim, arith}
 use Rattle.std.proofs.lemmas.Bool.{cases_lt}
-use Rattle.trips.specs.Links.{Cross, SameLink}
+use Rattle.std.proofs.lemmas.List.{length-append, length-take-le}
+use Rattle.std.proofs.Math.ListN.{get_or-append}
+use Rattle.std.proofs.Math.Seq.{get_or-append_seam, split_at}
+use Rattle.trips.specs.Links.{Ends, Cross, SameLink}
 use Rattle.ring.specs.declared.Area.{Area}
 use Rattle.ring.specs.declared.Link.{Link}
 use Rattle.ring.specs.declared.PlanFault.{PlanFault}
 use Rattle.ring.specs.declared.PlanFault.TheVariants.{Terminals, ShortArea, BadEnds, Repeats, Crosses}
-use Rattle.ring.specs.Linked.{ends_at}
-use Rattle.ring.specs.Faults.{turn, Bad, Earlier, Conflict, Condition, FirstIn, First}
+use Rattle.ring.specs.Linked.{ends_of, ends_at, link_at}
+use Rattle.ring.specs.Faults.{turn, Bad, Among, Earlier, Conflict, Condition, FirstIn, First}
+use Rattle.ring.proofs.Scans.{no_link}
 
 -- Turns from a up to b, then from b up to c.
 pub first_more : (Holds : PlanFault → Type 0) (a b c : ℕ) (r : Result Unit PlanFault) → a ≤ b → FirstIn Holds a b (Ok tt) → FirstIn Holds b c r → FirstIn Holds a c r
@@ -22,57 +26,107 @@ pub first_early : (Holds : PlanFault → Type 0) (a b c : ℕ) (f : PlanFault) �
 first_early Holds a b c f h q = let l = q.2 in (q.0, q.1, omega arith, q.3)
 
 -- A conflict that is no repeat is a crossing.
-pub crosses_left : (links : List Link) (i : ℕ) → (Earlier SameLink links i → ⊥) → Earlier Conflict links i → Earlier Cross links i
-crosses_left links i new w = (
+pub crosses_left : (e : Ends) (links : List Link) → (Among SameLink e links → ⊥) → Among Conflict e links → Among Cross e links
+crosses_left e links new w = (
   w.0,
   w.1,
   ⊎_elim
-      (λ (h : SameLink (ends_at links i) (ends_at links w.0)). absurd (new (w.0, w.1, h)))
-      (λ (h : Cross (ends_at links i) (ends_at links w.0)). h)
+      (λ (h : SameLink e (ends_at links w.0)). absurd (new (w.0, w.1, h)))
+      (λ (h : Cross e (ends_at links w.0)). h)
       w.2,
 )
 
-module _ (n : ℕ) (areas : List Area) (links : List Link) (i : ℕ) where
-  -- The faults whose turn falls to the link i.
-  of_link : (g : PlanFault) → 3 + 3 * i ≤ turn g → turn g < 6 + 3 * i → Condition n areas links g
-      → ((turn g ≡ 3 + 3 * i) × Bad n (ends_at links i)) ⊎ (((turn g ≡ 4 + 3 * i) × Earlier SameLink links i) ⊎ ((turn g ≡ 5 + 3 * i) × Earlier Cross links i))
+-- A link, the links before it and those after it.
+module _ (n : ℕ) (areas : List Area) (earlier later : List Link) (link : Link) where
+  abbrev Plan : List Link
+  Plan = earlier ++ link ∷ later
+
+  link_is : link_at Plan (length earlier) ≡ link
+  link_is = get_or-append_seam earlier link later no_link
+
+  is_earlier : (k : ℕ) → k < length earlier → link_at Plan k ≡ link_at earlier k
+  is_earlier k h = get_or-append earlier (link ∷ later) no_link k h
+
+  -- A relation to one of the links before it.
+  among : (R : Ends → Ends → Type 0) → Earlier R Plan (length earlier) → Among R (ends_of link) earlier
+  among R w = (
+    w.0,
+    w.1,
+    subst (λ (x : Link). R (ends_of x) (ends_at earlier w.0)) link_is
+        (subst (λ (x : Link). R (ends_at Plan (length earlier)) (ends_of x)) (is_earlier w.0 w.1) w.2),
+  )
+
+  is_among : (R : Ends → Ends → Type 0) → Among R (ends_of link) earlier → Earlier R Plan (length earlier)
+  is_among R w = (
+    w.0,
+    w.1,
+    subst (λ (x : Link). R (ends_of x) (ends_at Plan w.0)) (sym link_is)
+        (subst (λ (x : Link). R (ends_of link) (ends_of x)) (sym (is_earlier w.0 w.1)) w.2),
+  )
+
+  in_plan : length earlier < length Plan
+  in_plan = let l = length-append earlier (link ∷ later) in omega arith
+
+  -- The faults whose turn falls to the link.
+  of_link : (g : PlanFault) → 3 + 3 * length earlier ≤ turn g → turn g < 6 + 3 * length earlier → Condition n areas Plan g
+      → ((turn g ≡ 3 + 3 * length earlier) × Bad n (ends_of link))
+      ⊎ (((turn g ≡ 4 + 3 * length earlier) × Among SameLink (ends_of link) earlier) ⊎ ((turn g ≡ 5 + 3 * length earlier) × Among Cross (ends_of link) earlier))
   of_link Terminals p q w = absurd (omega arith)
   of_link ShortArea p q w = absurd (omega arith)
-  of_link (BadEnds j) p q w = let e : j ≡ i = omega arith in inl (omega arith, subst (λ (k : ℕ). Bad n (ends_at links k)) e w.1)
-  of_link (Repeats j) p q w = let e : j ≡ i = omega arith in inr (inl (omega arith, subst (λ (k : ℕ). Earlier SameLink links k) e w.1))
-  of_link (Crosses j) p q w = let e : j ≡ i = omega arith in inr (inr (omega arith, subst (λ (k : ℕ). Earlier Cross links k) e w.1))
+  of_link (BadEnds j) p q w =
+      let e : j ≡ length earlier = omega arith in
+      inl (omega arith, subst (λ (x : Link). Bad n (ends_of x)) link_is (subst (λ (k : ℕ). Bad n (ends_at Plan k)) e w.1))
+  of_link (Repeats j) p q w =
+      let e : j ≡ length earlier = omega arith in
+      inr (inl (omega arith, among SameLink (subst (λ (k : ℕ). Earlier SameLink Plan k) e w.1)))
+  of_link (Crosses j) p q w =
+      let e : j ≡ length earlier = omega arith in
+      inr (inr (omega arith, among Cross (subst (λ (k : ℕ). Earlier Cross Plan k) e w.1)))
 
-  pub repeats_first : i < length links → (Bad n (ends_at links i) → ⊥) → Earlier SameLink links i → FirstIn (Condition n areas links) (3 + 3 * i) (6 + 3 * i) (Err (Repeats i))
-  repeats_first h good e = (
-    (h, e),
-    omega arith,
-    omega arith,
-    λ g p q w.
-        ⊎_elim (λ (x : (turn g ≡ 3 + 3 * i) × Bad n (ends_at links i)). good x.1)
-        (⊎_elim (λ (x : (turn g ≡ 4 + 3 * i) × Earlier SameLink links i). let z = x.0 in omega arith)
-        (λ (x : (turn g ≡ 5 + 3 * i) × Earlier Cross links i). let z = x.0 in omega arith))
-        (of_link g p (omega arith) w),
-  )
+  module _ (good : Bad n (ends_of link) → ⊥) where
+    pub repeats_first : Among SameLink (ends_of link) earlier → FirstIn (Condition n areas Plan) (3 + 3 * length earlier) (6 + 3 * length earlier) (Err (Repeats (length earlier)))
+    repeats_first e = (
+      (in_plan, is_among SameLink e),
+      omega arith,
+      omega arith,
+      λ g p q w.
+          ⊎_elim (λ (x : (turn g ≡ 3 + 3 * length earlier) × Bad n (ends_of link)). good x.1)
+          (⊎_elim (λ (x : (turn g ≡ 4 + 3 * length earlier) × Among SameLink (ends_of link) earlier). let z = x.0 in omega arith)
+          (λ (x : (turn g ≡ 5 + 3 * length earlier) × Among Cross (ends_of link) earlier). let z = x.0 in omega arith))
+          (of_link g p (omega arith) w),
+    )
 
-  pub crosses_first : i < length links → (Bad n (ends_at links i) → ⊥) → (Earlier SameLink links i → ⊥) → Earlier Cross links i → FirstIn (Condition n areas links) (3 + 3 * i) (6 + 3 * i) (Err (Crosses i))
-  crosses_first h good new e = (
-    (h, e),
-    omega arith,
-    omega arith,
-    λ g p q w.
-        ⊎_elim (λ (x : (turn g ≡ 3 + 3 * i) × Bad n (ends_at links i)). good x.1)
-        (⊎_elim (λ (x : (turn g ≡ 4 + 3 * i) × Earlier SameLink links i). new x.1)
-        (λ (x : (turn g ≡ 5 + 3 * i) × Earlier Cross links i). let z = x.0 in omega arith))
-        (of_link g p (omega arith) w),
-  )
+    module _ (new : Among SameLink (ends_of link) earlier → ⊥) where
+      pub crosses_first : Among Cross (ends_of link) earlier → FirstIn (Condition n areas Plan) (3 + 3 * length earlier) (6 + 3 * length earlier) (Err (Crosses (length earlier)))
+      crosses_first e = (
+        (in_plan, is_among Cross e),
+        omega arith,
+        omega arith,
+        λ g p q w.
+            ⊎_elim (λ (x : (turn g ≡ 3 + 3 * length earlier) × Bad n (ends_of link)). good x.1)
+            (⊎_elim (λ (x : (turn g ≡ 4 + 3 * length earlier) × Among SameLink (ends_of link) earlier). new x.1)
+            (λ (x : (turn g ≡ 5 + 3 * length earlier) × Among Cross (ends_of link) earlier). let z = x.0 in omega arith))
+            (of_link g p (omega arith) w),
+      )
 
-  pub no_fault : (Bad n (ends_at links i) → ⊥) → (Earlier SameLink links i → ⊥) → (Earlier Cross links i → ⊥) → FirstIn (Condition n areas links) (3 + 3 * i) (6 + 3 * i) (Ok tt)
-  no_fault good new apart = λ g p q w.
-      ⊎_elim (λ (x : (turn g ≡ 3 + 3 * i) × Bad n (ends_at links i)). good x.1)
-      (⊎_elim (λ (x : (turn g ≡ 4 + 3 * i) × Earlier SameLink links i). new x.1) (λ (x : (turn g ≡ 5 + 3 * i) × Earlier Cross links i). apart x.1))
-      (of_link g p q w)
+      pub no_fault : (Among Cross (ends_of link) earlier → ⊥) → FirstIn (Condition n areas Plan) (3 + 3 * length earlier) (6 + 3 * length earlier) (Ok tt)
+      no_fault apart = λ g p q w.
+          ⊎_elim (λ (x : (turn g ≡ 3 + 3 * length earlier) × Bad n (ends_of link)). good x.1)
+          (⊎_elim
+          (λ (x : (turn g ≡ 4 + 3 * length earlier) × Among SameLink (ends_of link) earlier). new x.1)
+          (λ (x : (turn g ≡ 5 + 3 * length earlier) × Among Cross (ends_of link) earlier). apart x.1))
+          (of_link g p q w)
 
 module _ (n : ℕ) (areas : List Area) (links : List Link) where
+  -- What holds of a link and the links before it, whatever comes later, holds in the plan.
+  pub in_turn : (i : ℕ) (r : Result Unit PlanFault) → i < length links
+      → ((later : List Link) → FirstIn (Condition n areas (take i links ++ link_at links i ∷ later)) (3 + 3 * length (take i links)) (6 + 3 * length (take i links)) r)
+      → FirstIn (Condition n areas links) (3 + 3 * i) (6 + 3 * i) r
+  in_turn i r h p =
+      subst (λ (plan : List Link). FirstIn (Condition n areas plan) (3 + 3 * i) (6 + 3 * i) r) (sym (split_at links i no_link h))
+      (subst (λ (k : ℕ). FirstIn (Condition n areas (take i links ++ link_at links i ∷ drop (suc i) links)) (3 + 3 * k) (6 + 3 * k) r)
+      (length-take-le i links (omega arith)) (p (drop (suc i) links)))
+
   -- No fault of the plan has the free turn.
   free_turn : FirstIn (Condition n areas links) 2 3 (Ok tt)
   free_turn Terminals p q w = omega arith

@@ -1,6 +1,6 @@
--- The faults of a plan: their numbers, the condition of each, their order, and which one is told.
+-- The faults of a plan: their numbers and texts, the condition of each, their order, and which one is told.
 -- Assumes nothing.
-use Rattle.std.specs.Prelude.{◌≡◌, ℕ, ◌+◌, ◌*◌, ◌<◌, ◌≤◌, ◌⊎◌, List, length, Ok, Err, Result, slice_index_or}
+use Rattle.std.specs.Prelude.{◌≡◌, ℕ, ◌+◌, ◌*◌, ◌<◌, ◌≤◌, ◌⊎◌, List, length, Some, None, Option, Ok, Err, Result, codes, slice_index_or}
 use Rattle.trips.specs.Links.{Ends, Cross, SameLink}
 use Rattle.ring.specs.declared.Area.{Area}
 use Rattle.ring.specs.declared.Link.{Link}
@@ -23,6 +23,22 @@ fault_number (BadEnds i) = 4
 fault_number (Repeats i) = 5
 fault_number (Crosses i) = 6
 
+-- Why a plan is refused, in words.
+abbrev pub reason : PlanFault → List ℕ
+reason Terminals = codes "a ring has 3 to 4096 terminals"
+reason ShortArea = codes "an area is too short"
+reason (BadEnds i) = codes "an end is no terminal, or the ends are equal"
+reason (Repeats i) = codes "it repeats an earlier link"
+reason (Crosses i) = codes "it crosses an earlier link"
+
+-- The index of the link that a fault is of, if it is one's.
+abbrev pub faulty_link : PlanFault → Option ℕ
+faulty_link Terminals = None
+faulty_link ShortArea = None
+faulty_link (BadEnds i) = Some i
+faulty_link (Repeats i) = Some i
+faulty_link (Crosses i) = Some i
+
 -- The order in which faults are looked for: the number of terminals, the areas, then each link in turn.
 -- Turn 2 is left free for a check of the book that owns the plan.
 abbrev pub turn : PlanFault → ℕ
@@ -43,6 +59,10 @@ Conflict e f = SameLink e f ⊎ Cross e f
 -- The relation R holds between e and one of the first m links.
 abbrev pub AmongFirst : (Ends → Ends → Type 0) → Ends → List Link → ℕ → Type 0
 AmongFirst R e links m = (k : ℕ) × (k < m) × R e (ends_at links k)
+
+-- It holds between e and one of the links.
+abbrev pub Among : (Ends → Ends → Type 0) → Ends → List Link → Type 0
+Among R e links = AmongFirst R e links (length links)
 
 -- It holds between the link i and an earlier one.
 abbrev pub Earlier : (Ends → Ends → Type 0) → List Link → ℕ → Type 0

@@ -1,9 +1,9 @@
 // The checks of a plan, in the order in which its faults are told.
-ghost use Rattle.std.specs.Prelude.{ℕ, ◌+◌, ◌*◌, ◌<◌, List, length, Decides};
+ghost use Rattle.std.specs.Prelude.{ℕ, ◌+◌, ◌*◌, List, ◌∷◌, ◌++◌, length, Decides};
 ghost use Rattle.ring.specs.Linked.{ends_of};
 ghost use Rattle.ring.specs.Faults.{Bad, Condition, FirstIn};
 
-use crate::scan::{conflicts_earlier, repeats_earlier};
+use crate::scan::{conflicts_with_one_of, same_ends};
 use crate::{Area, FEWEST_TERMINALS, Link, MOST_TERMINALS, PlanFault};
 
 // Refuses fewer terminals than 3 and more than 4,096.
@@ -35,18 +35,20 @@ fn has_bad_ends(n: usize, link: Link) -> bool
     (n <= link.from as usize) | (n <= link.to as usize) | (link.from == link.to)
 }
 
-// Refuses the link at `i` for its ends, as a repeat of an earlier one, or for crossing an earlier one.
-fn check_link(n: usize, links: &[Link], i: usize) -> Result<(), PlanFault>
-    requires { i < length links.now }
-    ensures { (areas : List Area) → FirstIn (Condition n areas links.now) (3 + 3 * i) (6 + 3 * i) result }
+// Refuses the link that comes after the earlier ones, whatever comes later: for its ends, as a repeat of one of them, or for
+// crossing one of them.
+fn check_link(n: usize, earlier: &[Link], link: Link) -> Result<(), PlanFault>
+    ensures { (areas : List Area) (later : List Link)
+        → FirstIn (Condition n areas (earlier.now ++ link ∷ later)) (3 + 3 * length earlier.now) (6 + 3 * length earlier.now) result }
 {
-    if has_bad_ends(n, links[i]) {
+    let i = earlier.len();
+    if has_bad_ends(n, link) {
         return Err(PlanFault::BadEnds(i));
     }
-    if !conflicts_earlier(links, i) {
+    if !conflicts_with_one_of(earlier, link) {
         return Ok(());
     }
-    if repeats_earlier(links, i) {
+    if earlier.iter().any(|other| same_ends(link, *other)) {
         return Err(PlanFault::Repeats(i));
     }
     Err(PlanFault::Crosses(i))
@@ -56,8 +58,8 @@ fn check_link(n: usize, links: &[Link], i: usize) -> Result<(), PlanFault>
 pub fn check_links(n: usize, links: &[Link]) -> Result<(), PlanFault>
     ensures { (areas : List Area) → FirstIn (Condition n areas links.now) 3 (3 + 3 * length links.now) result }
 {
-    for i in 0..links.len() {
-        check_link(n, links, i)?;
+    for (i, link) in links.iter().enumerate() {
+        check_link(n, &links[..i], *link)?;
     }
     Ok(())
 }

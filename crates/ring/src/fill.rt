@@ -24,10 +24,13 @@ fn new_side(low: u16, high: u16) -> Side
 
 // Writes the sides. Each side writes its two children: the left one at the next place, the right one past the left one's places.
 fn write_sides(n: usize, links: &[Link], sides: &mut [Side])
-    requires { (fewest ≤ n) × ((n ≤ most) × (side_count n ≤ length sides.old)) }
+    requires enough { fewest ≤ n }
+    requires few { n ≤ most }
+    requires room { side_count n ≤ length sides.old }
     ensures { FilledWith n links.now [] sides.old sides.new }
 {
     sides[0] = new_side(0, (n - 1) as u16);
+    // By index, since each turn reads the place i and writes two later ones.
     for i in 0..2 * n - 3 {
         let low = sides[i].low;
         let high = sides[i].high;
@@ -41,24 +44,15 @@ fn write_sides(n: usize, links: &[Link], sides: &mut [Side])
 
 // Marks the sides that are links.
 fn mark_links(n: usize, links: &[Link], sides: &mut [Side])
-    requires { (fewest ≤ n) × (n ≤ most) }
+    requires enough { fewest ≤ n }
+    requires few { n ≤ most }
     ensures { (before : List Side) → FilledWith n links.now [] before sides.old → Fills n links.now before sides.new }
 {
-    for i in 0..links.len() {
-        let link = links[i];
+    for link in links {
         if let Some(place) = find_side(n, sides, link.from, link.to) {
             sides[place].link = true;
         }
     }
-}
-
-// Fills the ring: writes the sides, then marks the links.
-fn fill_sides(n: usize, links: &[Link], sides: &mut [Side])
-    requires { (fewest ≤ n) × ((n ≤ most) × (side_count n ≤ length sides.old)) }
-    ensures { Fills n links.now sides.old sides.new }
-{
-    write_sides(n, links, sides);
-    mark_links(n, links, sides);
 }
 
 // Refuses a number of terminals that makes no ring, and a side area of the length `given` if that is too short for it.
@@ -77,15 +71,14 @@ pub fn triangulate(n: usize, links: &[Link], sides: &mut [Side]) -> Result<(), P
 {
     check_room(n, sides.len())?;
     check_links(n, links)?;
-    fill_sides(n, links, sides);
+    write_sides(n, links, sides);
+    mark_links(n, links, sides);
     Ok(())
 }
 
 // What the fill decides and how a triangulated area is read.
-pub fn areas_are_determined() -> u8
+pub fn areas_are_determined()
     ensures alike { EqualPlansFillAlike }
     ensures by_place { AreaByPlace }
     ensures joins { JoinsAreLinks }
-{
-    0
-}
+{}

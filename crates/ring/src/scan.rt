@@ -1,9 +1,9 @@
 // Tests on links, and the two scans over the links of a plan. The scans' loops have no branches.
-ghost use Rattle.std.specs.Prelude.{◌≡◌, ℕ, ◌+◌, ◌<◌, ◌⊎◌, length, Decides};
+ghost use Rattle.std.specs.Prelude.{◌≡◌, ℕ, ◌+◌, ◌<◌, ◌≤◌, ◌⊎◌, Decides};
 ghost use Rattle.trips.specs.Links.{Cross, SameLink, Named};
 ghost use Rattle.triangulation.specs.Filling.{Third};
 ghost use Rattle.ring.specs.Linked.{ends_of, joins};
-ghost use Rattle.ring.specs.Faults.{Conflict, Earlier};
+ghost use Rattle.ring.specs.Faults.{Among, Conflict};
 
 use crate::Link;
 
@@ -39,43 +39,34 @@ pub fn crosses(one: Link, other: Link) -> bool
         | (lies_beyond(other.from, low, high) & lies_between(other.to, low, high))
 }
 
-// Whether a link before the one at `i` has the same two ends.
-pub(crate) fn repeats_earlier(links: &[Link], i: usize) -> bool
-    requires { i < length links.now }
-    ensures { Decides result (Earlier SameLink links.now i) }
+// Whether the two links have the same two ends or cross.
+fn conflicts(one: Link, other: Link) -> bool
+    ensures { Decides result (Conflict (ends_of one) (ends_of other)) }
 {
-    let link = links[i];
-    let mut found = false;
-    for j in 0..i {
-        found = found | same_ends(link, links[j]);
-    }
-    found
+    same_ends(one, other) | crosses(one, other)
 }
 
-// Whether a link before the one at `i` has the same two ends or crosses it.
-pub(crate) fn conflicts_earlier(links: &[Link], i: usize) -> bool
-    requires { i < length links.now }
-    ensures { Decides result (Earlier Conflict links.now i) }
+// Whether the link has the same two ends as one of the earlier links or crosses it.
+pub(crate) fn conflicts_with_one_of(earlier: &[Link], link: Link) -> bool
+    ensures { Decides result (Among Conflict (ends_of link) earlier.now) }
 {
-    let link = links[i];
-    let mut found = false;
-    for j in 0..i {
-        found = found | (same_ends(link, links[j]) | crosses(link, links[j]));
-    }
-    found
+    // No `any`: it stops early, and takes 1.6 G instructions for all of 8,189 links where this takes 0.23 G.
+    earlier
+        .iter()
+        .fold(false, |found, other| found | conflicts(link, *other))
 }
 
-// The end that the link joins with `a`, or 0 if `a` is not one of its ends.
-fn joined_with(link: Link, a: u16) -> u16
-    ensures only { (d : ℕ) → Named (ends_of link) a d → d ≡ result }
-    ensures joined { 0 < result → Named (ends_of link) a result }
+// The third terminal of the side from `low` to `high`, if the link draws it, else the next one.
+fn drawn_third(link: Link, low: u16, high: u16) -> u16
+    requires { low + 1 < high }
+    ensures below { result < high }
+    ensures drawn { (result ≡ low + 1) ⊎ Named (ends_of link) low result }
+    ensures largest { (d : ℕ) → d < high → Named (ends_of link) low d → d ≤ result }
 {
-    if link.from == a {
-        link.to
-    } else if link.to == a {
-        link.from
+    if link.low() == low && link.high() < high {
+        link.high()
     } else {
-        0
+        low + 1
     }
 }
 
@@ -84,11 +75,8 @@ pub(crate) fn third_terminal(links: &[Link], low: u16, high: u16) -> u16
     requires { low + 1 < high }
     ensures { Third (joins links.now) low high result }
 {
-    let mut third = low + 1;
-    for link in links {
-        let end = joined_with(*link, low);
-        let candidate = if end < high { end } else { 0 };
-        third = third.max(candidate);
-    }
-    third
+    links.iter().fold(
+        low + 1,
+        |third, link| third.max(drawn_third(*link, low, high)),
+    )
 }

@@ -12,35 +12,29 @@ fn link(from: u16, to: u16) -> Link {
     Link { from, to }
 }
 
-// The number of the fault and the link's index, or zeros.
-fn told(answer: Result<(), PlanFault>) -> (u8, usize) {
-    match answer {
-        Ok(()) => (0, 0),
-        Err(PlanFault::Terminals) => (3, 0),
-        Err(PlanFault::ShortArea) => (1, 0),
-        Err(PlanFault::BadEnds(i)) => (4, i),
-        Err(PlanFault::Repeats(i)) => (5, i),
-        Err(PlanFault::Crosses(i)) => (6, i),
-    }
-}
-
 #[test]
 fn bad_plans_are_refused(rt: HostRuntime) {
     let mut sides = [BLANK; 6];
-    assert_eq!(rt; told(triangulate(2, &[], &mut sides)), (3, 0));
-    assert_eq!(rt; told(triangulate(4097, &[], &mut sides)), (3, 0));
-    assert_eq!(rt; told(triangulate(5, &[link(7, 7)], &mut sides)), (1, 0));
+    assert_eq!(rt; triangulate(2, &[], &mut sides), Err(PlanFault::Terminals));
     assert_eq!(rt;
-        told(triangulate(4, &[link(0, 2), link(3, 4)], &mut sides)),
-        (4, 1)
+        triangulate(4097, &[], &mut sides),
+        Err(PlanFault::Terminals)
     );
     assert_eq!(rt;
-        told(triangulate(4, &[link(0, 2), link(2, 0)], &mut sides)),
-        (5, 1)
+        triangulate(5, &[link(7, 7)], &mut sides),
+        Err(PlanFault::ShortArea)
     );
     assert_eq!(rt;
-        told(triangulate(4, &[link(0, 2), link(3, 2), link(1, 3)], &mut sides)),
-        (6, 2)
+        triangulate(4, &[link(0, 2), link(3, 4)], &mut sides),
+        Err(PlanFault::BadEnds(1))
+    );
+    assert_eq!(rt;
+        triangulate(4, &[link(0, 2), link(2, 0)], &mut sides),
+        Err(PlanFault::Repeats(1))
+    );
+    assert_eq!(rt;
+        triangulate(4, &[link(0, 2), link(3, 2), link(1, 3)], &mut sides),
+        Err(PlanFault::Crosses(2))
     );
 }
 
@@ -48,8 +42,8 @@ fn bad_plans_are_refused(rt: HostRuntime) {
 fn links_that_meet_at_an_end_do_not_cross(rt: HostRuntime) {
     let mut sides = [BLANK; 6];
     assert_eq!(rt;
-        told(triangulate(4, &[link(0, 2), link(0, 3)], &mut sides)),
-        (0, 0)
+        triangulate(4, &[link(0, 2), link(0, 3)], &mut sides),
+        Ok(())
     );
     assert_eq!(rt; find_side(4, &sides, 2, 0), Some(1));
     assert_eq!(rt; find_side(4, &sides, 1, 3), None);

@@ -1,12 +1,26 @@
 -- Triangulations of well-known shapes: where the third terminals lie, and a list of links as the sides in preorder.
 -- Assumes nothing.
-use Rattle.std.specs.Prelude.{◌≡◌, ◌≢◌, ℕ, ◌+◌, ◌-◌, ◌*◌, ◌/◌, ◌%◌, ◌^◌, ◌<◌, List, map, length, take, ◌==◌, if◌then◌else◌}
+use Rattle.std.specs.Prelude.{◌≡◌, ◌≢◌, ℕ, ◌+◌, ◌-◌, ◌*◌, ◌/◌, ◌%◌, ◌^◌, ◌<◌, List, map, length, take, ◌==◌, codes, Ok, Err, Result, if◌then◌else◌}
 use Rattle.trips.specs.Links.{Terminal}
 use Rattle.triangulation.specs.Trees.{Tree, leaf, node, Spans, preorder}
 use Rattle.ring.specs.declared.Link.{Link}
 use Rattle.ring.specs.Linked.{ends_of}
 use Rattle.shapes.specs.declared.Shape.{Shape}
 use Rattle.shapes.specs.declared.Shape.TheVariants.{Fan, Zigzag, Balanced, Scattered, Bare}
+use Rattle.shapes.specs.declared.UnknownShape.{UnknownShape}
+
+-- The word for a shape.
+abbrev pub name_of : Shape → List ℕ
+name_of Fan = codes "fan"
+name_of Zigzag = codes "zigzag"
+name_of Balanced = codes "balanced"
+name_of Scattered = codes "scattered"
+name_of Bare = codes "none"
+
+-- The shape that the word names, or that it names none.
+abbrev pub NamedBy : List ℕ → Result Shape UnknownShape → Type 0
+NamedBy word (Ok shape) = word ≡ name_of shape
+NamedBy word (Err _) = (shape : Shape) → word ≢ name_of shape
 
 -- Where the third terminal c of the triangle on the side {a, b} lies.
 abbrev pub ThirdBy : Shape → Terminal → Terminal → Terminal → Type 0

@@ -3,12 +3,15 @@
 
 ghost use Rattle.std.specs.Prelude.{◌≡◌, ◌+◌, ◌-◌, ◌*◌, ◌<◌, ◌≤◌, slice_set};
 ghost use Rattle.ring.specs.Linked.{link_at};
-ghost use Rattle.shapes.specs.Shapes.{Drawn, link_between, mixed_of, third_of, ThirdBy};
+ghost use Rattle.shapes.specs.Shapes.{Drawn, link_between, mixed_of, NamedBy, third_of, ThirdBy};
 
 use ring::Link;
+use std::error::Error;
+use std::fmt;
+use std::str::FromStr;
 
 // How the triangles lie.
-#[derive(Clone, Copy)]
+#[derive(Clone, Copy, Debug, PartialEq, Eq)]
 pub enum Shape {
     // All at terminal 0.
     Fan,
@@ -20,6 +23,39 @@ pub enum Shape {
     Scattered,
     // No links at all.
     Bare,
+}
+
+// The word names no shape.
+#[derive(Clone, Copy, Debug, PartialEq, Eq)]
+pub struct UnknownShape;
+
+impl fmt::Display for UnknownShape {
+    ghost use Rattle.std.specs.Prelude.{codes, Some};
+
+    ghost output = { λ _. Some (codes "no shape has this name") };
+
+    fn fmt<W: fmt::Write>(&self, f: &mut fmt::Formatter<W>) -> fmt::Result {
+        f.write_str("no shape has this name")
+    }
+}
+
+impl Error for UnknownShape {}
+
+impl FromStr for Shape {
+    type Err = UnknownShape;
+
+    ghost from_str_gives = { NamedBy };
+
+    fn from_str(word: &str) -> Result<Shape, UnknownShape> {
+        match word {
+            "fan" => Ok(Shape::Fan),
+            "zigzag" => Ok(Shape::Zigzag),
+            "balanced" => Ok(Shape::Balanced),
+            "scattered" => Ok(Shape::Scattered),
+            "none" => Ok(Shape::Bare),
+            _ => Err(UnknownShape),
+        }
+    }
 }
 
 // A number from 0 to 65,535 that looks random.
@@ -38,7 +74,8 @@ fn mixed(low: u16, high: u16) -> u16
 // The third terminal of the triangle on the side from `low` to `high`.
 fn third(shape: Shape, low: u16, high: u16) -> u16
     requires { low + 1 < high }
-    ensures between { (low < result) × (result < high) }
+    ensures above_low { low < result }
+    ensures below_high { result < high }
     ensures lies { ThirdBy shape low result high }
     ensures chosen { result ≡ third_of shape low high }
 {
@@ -59,6 +96,7 @@ fn third(shape: Shape, low: u16, high: u16) -> u16
 fn put(links: &mut [Link], i: usize, link: Link)
     ensures { links.new ≡ slice_set links.old i link }
 {
+    // Not by `get_mut`: tried, no proof; of a slice it tells the length alone, and not what was written.
     if i < links.len() {
         links[i] = link;
     }
@@ -73,11 +111,9 @@ fn put_children(shape: Shape, links: &mut [Link], i: usize)
         at.from + 1 < at.to
         → links.new ≡ slice_set left_drawn (i + 2 * (c - at.from)) (link_between c at.to) }
 {
-    if i >= links.len() {
+    let Some(&Link { from, to }) = links.get(i) else {
         return;
-    }
-    let from = links[i].from;
-    let to = links[i].to;
+    };
     if to > from && to - from > 1 {
         let between = third(shape, from, to);
         put(links, i.saturating_add(1), Link { from, to: between });
@@ -95,6 +131,7 @@ pub fn draw_shape(shape: Shape, last: u16, links: &mut [Link])
     ensures { 1 ≤ last → Drawn shape last links.new }
 {
     put(links, 0, Link { from: 0, to: last });
+    // By index: a turn writes later places, which an iterator over the links has lent out.
     for i in 0..links.len() {
         put_children(shape, links, i);
     }

@@ -16,10 +16,10 @@ pub const SHEET: usize = 64;
 pub fn rate_at<R: Rate>(area: &[R], place: usize) -> R
     ensures { R.means result ≡ slice_index_or (map R.means area.now) place R.kind.none }
 {
-    if place >= area.len() {
-        return R::none();
+    match area.get(place) {
+        Some(rate) => *rate,
+        None => R::none(),
     }
-    area[place]
 }
 
 // The rate from the edge terminal i to the edge terminal j; none past the sheet's end.

@@ -1,13 +1,16 @@
 -- Writing the row of one more terminal into a table, and looking along its loops.
 -- Assumes nothing.
-use Rattle.std.proofs.Common.{◌≡◌, ℕ, ◌+◌, ◌*◌, ◌<◌, ◌≤◌, Bool, true, false, List, map, length, get_or, sym, ap, ◌∙◌, subst, ⊎_elim, arith}
+use Rattle.std.proofs.Common.{◌≡◌, ℕ, ◌+◌, ◌*◌, ◌<◌, ◌≤◌, Bool, true, false, List, map, length, get_or, sym, ap, refl, ◌∙◌, subst, ⊎_elim, arith, Decides}
 use borrow.Rule.Slice.PartMut.{put_mid}
 use Rattle.std.proofs.lemmas.Bool.{cases_eq, both_ways}
+use Rattle.std.specs.Bool.{MatchBool}
+use Rattle.std.specs.List.{range_with_len, AllWithin, HoldsAt}
+use Rattle.std.proofs.lemmas.List.FromFn.{length-range_with_len, get_or-range_with_len}
 use Rattle.rates.specs.Kinds.{Kind, NoWorse}
 use Rattle.trips.specs.Trips.{LaneMap, rate}
 use Rattle.slow.specs.Areas.{at, entry}
 use Rattle.slow.specs.Rows.{OfTrip, Found, RowsFound, SomeLoopBetter}
-use Rattle.slow.proofs.Places.{read_at, row_written, before_row, rows_before}
+use Rattle.slow.proofs.Places.{read_at, row_written, before_row, rows_before, place_within}
 
 module _ {M : Type 0} (K : Kind M) where
   -- a row with the same members is found too
@@ -33,17 +36,24 @@ module _ {M : Type 0} (K : Kind M) where
         (λ w p. before_row K means (n * u) k table row (n * x + w) (omega arith) (omega (arith, rows_before n x u before))) (h x before))
         (cases_eq x u)
 
-    -- the test of the value at a place is that of its member
-    loop_test : (n u : ℕ) (table : List V) (v : V) (still : M) (r : Bool) → n * u + u < length table → v ≡ get_or table (n * u + u) v → still ≡ K.still → r ≡ K.better (means v) still → K.better (entry K n (map means table) u u) K.still ≡ r
-    loop_test n u table v still r l e s t =
-        ap (λ x. K.better x K.still) (read_at K means table (n * u + u) v l e) ∙ ap (K.better (means v)) (sym s) ∙ sym t
+    -- what the test of some value at the own place of a terminal answered
+    abbrev pub OwnTest : ℕ → List V → Bool → ℕ → Type 0
+    OwnTest n table r u = (v : V) × (v ≡ get_or table (n * u + u) v) × (K.better (means v) K.still ≡ r)
 
-    pub loop_found : (n u : ℕ) (table : List V) (v : V) (still : M) (r : Bool) → n * u + u < length table → v ≡ get_or table (n * u + u) v → still ≡ K.still → r ≡ K.better (means v) still → u < n → r ≡ true → SomeLoopBetter K n (entry K n (map means table))
-    loop_found n u table v still r l e s t k z = (u, k, loop_test n u table v still r l e s t ∙ z)
+    own_test : (n u : ℕ) (table : List V) (r : Bool) → n * u + u < length table → OwnTest n table r u → K.better (entry K n (map means table) u u) K.still ≡ r
+    own_test n u table r l (v, e, t) = ap (λ x. K.better x K.still) (read_at K means table (n * u + u) v l e) ∙ t
 
-    pub no_loop_more : (n u : ℕ) (table : List V) (v : V) (still : M) (r : Bool) → n * u + u < length table → v ≡ get_or table (n * u + u) v → still ≡ K.still → r ≡ K.better (means v) still → r ≡ false → (SomeLoopBetter K u (entry K n (map means table)) → ⊥) → SomeLoopBetter K (u + 1) (entry K n (map means table)) → ⊥
-    no_loop_more n u table v still r l e s t z h (x, k, b) =
-        ⊎_elim
-        (λ same. both_ways r z (sym (loop_test n u table v still r l e s t) ∙ ap (λ y. K.better (entry K n (map means table) y y) K.still) (sym same) ∙ b))
-        (λ other. h (x, omega arith, b))
-        (cases_eq x u)
+    -- what such tests tell of all terminals
+    pub loops_tested : (n : ℕ) (table : List V) (r : Bool) → length table ≡ n * n → MatchBool r ((k : ℕ) × (k < length (range_with_len 0 n)) × HoldsAt (OwnTest n table true) (range_with_len 0 n) k) (AllWithin (OwnTest n table false) (range_with_len 0 n) 0 (length (range_with_len 0 n))) → Decides r (SomeLoopBetter K n (entry K n (map means table)))
+    loops_tested n table true long (k, l, h) =
+        let below : k < n = omega (arith, length-range_with_len 0 n) in
+        let here : 0 + k ≡ k = omega arith in
+        let test = subst (OwnTest n table true) (get_or-range_with_len 0 n k 0 below ∙ here) (h 0) in
+        (λ _. (k, below, own_test n k table true (omega (arith, place_within n k k below below, long)) test), λ _. refl)
+    loops_tested n table false long h = (
+      λ e. absurd (both_ways false refl e),
+      λ (u, below, b).
+          let here : 0 + u ≡ u = omega arith in
+          let test = subst (OwnTest n table false) (get_or-range_with_len 0 n u 0 below ∙ here) (h u 0 (omega arith) (omega (arith, length-range_with_len 0 n))) in
+          absurd (both_ways _ (own_test n u table false (omega (arith, place_within n u u below below, long)) test) b),
+    )

@@ -1,10 +1,13 @@
 -- The lane map that an area shows: over which terminals, and how large its rates are.
 -- Assumes the laws of the kind.
-use Rattle.std.proofs.Common.{◌≡◌, ℕ, ◌+◌, ◌*◌, ◌<◌, ◌≤◌, ◌&&◌, ltb, ◌⊎◌, List, ap, ◌∙◌, inl, inr, ⊎_elim, arith}
+use Rattle.std.proofs.Common.{◌≡◌, ℕ, ◌+◌, ◌*◌, ◌<◌, ◌≤◌, ◌&&◌, ltb, ◌⊎◌, List, map, length, ap, ◌∙◌, inl, inr, ⊎_elim, arith}
+use mathlib.Core.Logic.{∥∥₁_elim}
+use Rattle.std.specs.Coded.{le_prop}
+use Rattle.std.proofs.lemmas.List.{length-map}
 use Rattle.std.proofs.lemmas.Bool.{cases_Bool, and_parts, and_from, ltb-true, lt-ltb, cond-true, cond-false}
 use Rattle.rates.specs.Kinds.{Kind, Laws}
 use Rattle.trips.specs.Trips.{Over}
-use Rattle.slow.specs.Areas.{entry, lane_map, LaneArea}
+use Rattle.slow.specs.Areas.{entry, lane_map, Few, LanesBelow, LaneArea}
 use Rattle.slow.specs.Rows.{lane_size}
 use Rattle.slow.proofs.Places.{place_within}
 
@@ -33,3 +36,10 @@ module _ {M : Type 0} (K : Kind M) (X : Laws K) (n : ℕ) (area : List M) where
       (h.lanes (n * u + v) (place_within n u v c.0 c.1)))
       (λ e. omega (arith, ap K.size e, X.none_size))
       (lane_cases u v)
+
+module _ {M : Type 0} (K : Kind M) (X : Laws K) {V : Type 0} (means : V → M) (n : ℕ) (rates : List V) where
+  -- the same of lanes that are held
+  pub held_small : Few n → length rates ≡ n * n → ∥ LanesBelow K (map means rates) (n * n) ∥₁ → (u v : ℕ) → K.size (lane_map K n (map means rates) u v) ≤ lane_size
+  held_small few square lanes u v =
+      ∥∥₁_elim lanes le_prop
+      (λ below. lanes_small K X n (map means rates) (record { few = few; square = length-map rates means ∙ square; lanes = below }) u v)

@@ -1,4 +1,5 @@
 pub mod Places
+pub mod Checking
 pub mod LaneMaps
 pub mod Relaxing
 pub mod Sweeping

@@ -1,6 +1,6 @@
 -- A network held as an area of rates, a table of its best rates, and what is answered about them.
 -- Assumes nothing; the kind of rate is any.
-use Rattle.std.specs.Prelude.{◌≡◌, ℕ, ◌+◌, ◌*◌, ◌<◌, ◌≤◌, Bool, true, false, cond, ◌&&◌, ◌⊎◌, List, map, length, Some, None, Ok, Err, Decides, Option, Result, ◌≢◌, nat_lt, slice_index_or}
+use Rattle.std.specs.Prelude.{◌≡◌, ℕ, ◌+◌, ◌*◌, ◌<◌, ◌≤◌, Bool, true, false, cond, ◌&&◌, ◌⊎◌, List, map, length, Ok, Err, Decides, Result, ◌≢◌, nat_lt, slice_index_or}
 use Rattle.rates.specs.Kinds.{Kind}
 use Rattle.trips.specs.Trips.{LaneMap, Earning, NoEarning, BestRate, changed}
 use Rattle.slow.specs.declared.refusal.Refusal.{Refusal}
@@ -22,6 +22,15 @@ pub record InArea (n places from to : ℕ) : Type 0 where
   pub from_below : from < n
   pub to_below : to < n
 
+-- why there is no network of so many terminals
+abbrev pub CountRefused : ℕ → Refusal → Type 0
+CountRefused n NoTerminals = n ≡ 0
+CountRefused n TooManyTerminals = most_terminals < n
+CountRefused n WrongLength = ⊥
+CountRefused n (NoRate k) = ⊥
+CountRefused n NoTerminal = ⊥
+CountRefused n NoLaneRate = ⊥
+
 -- Why a question about two terminals is refused: the first that holds of these.
 abbrev pub PairRefused : (n places from to : ℕ) → Refusal → Type 0
 PairRefused n places from to NoTerminals = n ≡ 0
@@ -30,10 +39,6 @@ PairRefused n places from to WrongLength = Few n × (places ≢ n * n)
 PairRefused n places from to (NoRate k) = ⊥
 PairRefused n places from to NoTerminal = Few n × (places ≡ n * n) × ((n ≤ from) ⊎ (n ≤ to))
 PairRefused n places from to NoLaneRate = ⊥
-
-abbrev pub PairChecked : (n places from to : ℕ) → Option Refusal → Type 0
-PairChecked n places from to None = InArea n places from to
-PairChecked n places from to (Some why) = PairRefused n places from to why
 
 module _ {M : Type 0} (K : Kind M) where
   -- the member at a place
@@ -62,6 +67,15 @@ module _ {M : Type 0} (K : Kind M) where
     pub no_rate : LaneOrNone (at list k) → ⊥
     pub before : LanesBelow list k
 
+  -- why a list is not all none and lane rates
+  abbrev pub RateRefused : List M → Refusal → Type 0
+  RateRefused list NoTerminals = ⊥
+  RateRefused list TooManyTerminals = ⊥
+  RateRefused list WrongLength = ⊥
+  RateRefused list (NoRate k) = FirstNoRate list k
+  RateRefused list NoTerminal = ⊥
+  RateRefused list NoLaneRate = ⊥
+
   -- an area that shows a network of n terminals
   pub record LaneArea (n : ℕ) (area : List M) : Type 0 where
     pub few : Few n
@@ -86,11 +100,6 @@ module _ {M : Type 0} (K : Kind M) where
   AreasRefused n area places (NoRate k) = Few n × (length area ≡ n * n) × (places ≡ n * n) × FirstNoRate area k
   AreasRefused n area places NoTerminal = ⊥
   AreasRefused n area places NoLaneRate = ⊥
-
-  -- the areas are in order, where places counts those of the table, or the reason why they are not
-  abbrev pub AreasChecked : ℕ → List M → ℕ → Option Refusal → Type 0
-  AreasChecked n area places None = LaneArea n area × (places ≡ n * n)
-  AreasChecked n area places (Some why) = AreasRefused n area places why
 
   -- the answer of relaxing, given what the table held before and after; a refusal leaves it as it was
   abbrev pub Relaxing : {V : Type 0} → (V → M) → ℕ → List M → (before after : List V) → Result Bool Refusal → Type 0

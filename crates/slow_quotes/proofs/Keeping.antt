@@ -1,23 +1,20 @@
 -- What keeps a network's area and table in order: setting lanes, and filling the table of a network without lanes.
 -- Assumes the laws of the kind.
-use Rattle.std.proofs.Common.{◌≡◌, ℕ, ◌+◌, ◌*◌, ◌<◌, Bool, true, false, ◌&&◌, ltb, ◌⊎◌, ◌≢◌, List, [], map, length, take, ◌++◌, Ok, Err, Some, Option, Result, sym, refl, ap, ◌∙◌, subst, inl, inr, ⊎_elim, arith}
+use Rattle.std.proofs.Common.{◌≡◌, ℕ, ◌+◌, ◌*◌, ◌<◌, Bool, true, false, ◌&&◌, ltb, List, [], map, length, take, ◌++◌, Ok, Err, Result, sym, refl, ap, ◌∙◌, subst, inl, inr, ⊎_elim, arith}
 use Rattle.std.specs.Result.{MatchResult, IsErrAnd}
 use Rattle.std.proofs.lemmas.Bool.{cases_Bool, both_ways, cond-true, cond-false}
 use Rattle.std.proofs.Math.Seq.{take-append_seam}
-use Rattle.std.proofs.lemmas.List.{length-map, get_or_past, nil_from_length}
+use Rattle.std.proofs.lemmas.List.{length-map, nil_from_length}
 use Rattle.rates.specs.Kinds.{Kind, Laws}
-use Rattle.trips.specs.Trips.{LaneMap, Trip, lanes, Earning, NoEarning, BestRate, changed}
+use Rattle.trips.specs.Trips.{LaneMap, Trip, lanes, Earning, NoEarning, changed}
 use Rattle.trips.specs.Trips.Trip.{stay, go}
 use Rattle.trips.proofs.Walks.{no_earning_fewer}
-use Rattle.slow.specs.Areas.{Few, InArea, PairRefused, at, entry, lane_map, LaneOrNone, LaneArea, Settled, AreasRefused, Tested, LaneSet}
+use Rattle.slow.specs.Areas.{Few, InArea, at, entry, lane_map, LaneArea, Settled, AreasRefused, Tested, LaneSet}
 use Rattle.slow.specs.declared.refusal.Refusal.{Refusal}
 use Rattle.slow.specs.declared.refusal.Refusal.TheVariants.{NoTerminals, TooManyTerminals, WrongLength, NoRate, NoTerminal, NoLaneRate}
-use Rattle.slow_quotes.specs.declared.order.Order.{Order}
-use Rattle.slow_quotes.specs.declared.order.Order.TheVariants.{Terminals, Lane, Shut, Quote}
-use Rattle.slow_quotes.specs.declared.quotes.Quotation.{Quotation}
-use Rattle.slow_quotes.specs.declared.quotes.Fault.{Fault}
-use Rattle.slow_quotes.specs.declared.quotes.Fault.TheVariants.{Refused}
-use Rattle.slow_quotes.specs.Networks.{Posted, TakenAway, Network, PairFault, CountFault, LaneChanged, LaneFault, Answered, without_quotation, WithoutLanes, shown, Filled, InOrder, EmptyArea}
+use Rattle.slow_quotes.specs.declared.fault.Fault.{Fault}
+use Rattle.slow_quotes.specs.declared.fault.Fault.TheVariants.{Refused}
+use Rattle.slow_quotes.specs.Networks.{CountFault, LaneChanged, shown, Filled, InOrder, EmptyArea}
 
 -- a list that is written back into a vector of its length
 pub written_back : {A : Type 0} (n : ℕ) (new rest : List A) → length new ≡ n → take n (new ++ rest) ≡ new
@@ -28,26 +25,8 @@ pub handed_on : {T : Type 0} (r : Result T Fault) (why : Refusal) (P : T → Typ
 handed_on (Ok x) why P Q a q = absurd a
 handed_on (Err fault) why P Q a q = subst Q (sym a) q
 
--- a refusal of two terminals is one of the network, where the area has its length
-pub pair_refused : (n places from to : ℕ) → (Few n → places ≡ n * n) → (why : Refusal) → PairRefused n places from to why → PairRefused n (n * n) from to why
-pair_refused n places from to e NoTerminals h = h
-pair_refused n places from to e TooManyTerminals h = h
-pair_refused n places from to e WrongLength h = absurd (h.1 (e h.0))
-pair_refused n places from to e (NoRate k) h = absurd h
-pair_refused n places from to e NoTerminal h = (h.0, refl, h.2)
-pair_refused n places from to e NoLaneRate h = absurd h
-
 pub pair_within : (n places from to : ℕ) → InArea n places from to → InArea n (n * n) from to
 pair_within n places from to h = record { few = h.few; square = refl; from_below = h.from_below; to_below = h.to_below }
-
--- two terminals in the area are not refused
-pub pair_not_refused : (n places from to : ℕ) → InArea n places from to → (why : Refusal) → PairRefused n places from to why → ⊥
-pair_not_refused n places from to i NoTerminals h = omega (arith, i.few.some)
-pair_not_refused n places from to i TooManyTerminals h = omega (arith, i.few.not_too_many)
-pair_not_refused n places from to i WrongLength h = h.1 i.square
-pair_not_refused n places from to i (NoRate k) h = h
-pair_not_refused n places from to i NoTerminal h = ⊎_elim (λ z. omega (arith, i.from_below)) (λ z. omega (arith, i.to_below)) h.2
-pair_not_refused n places from to i NoLaneRate h = h
 
 module _ {M : Type 0} (K : Kind M) where
   -- an area of lanes is not refused
@@ -78,20 +57,6 @@ module _ {M : Type 0} (K : Kind M) where
       (λ z. cond-true (ltb u n && ltb v n) (entry K n area u v) K.none z ∙ e (n * u + v))
       (λ z. cond-false (ltb u n && ltb v n) (entry K n area u v) K.none z)
       (cases_Bool (ltb u n && ltb v n))
-
-  pub none_held : (k : ℕ) → at K [] k ≡ K.none
-  none_held k = get_or_past [] k K.none (omega arith)
-
-  -- in a network that is held in order no closed trip earns
-  pub in_order_earns_not : (n : ℕ) (area table : List M) → InOrder K n area table → NoEarning K (lane_map K n area)
-  in_order_earns_not n area table h =
-      ⊎_elim
-      (λ f. f.none_earns)
-      (λ e. subst (λ list. NoEarning K (lane_map K n list)) (sym e.1) (no_lanes_earn_not (none_shown n [] none_held)))
-      h.either
-
-  pub without_lanes : (n : ℕ) (area : List M) → EmptyArea K n area → WithoutLanes K n (shown K n area)
-  without_lanes n area e = record { terminals_are = refl; none_stands = none_shown n area e.holds_none }
 
   -- why the table of a network without lanes is not filled
   pub count_fault : (n : ℕ) (area table : List M) → EmptyArea K n area → EmptyArea K n table → (why : Refusal) → AreasRefused K n area (length table) why → CountFault n (Refused why)
@@ -129,19 +94,6 @@ module _ {M : Type 0} (K : Kind M) where
       pub table_places : Few n → length table ≡ n * n
       table_places few = sym (length-map table means) ∙ (filled_from h few).places
 
-      pub lane_places : Few n → length lanes ≡ n * n
-      lane_places few = sym (length-map lanes means) ∙ (filled_from h few).shows.square
-
-      -- why a lane is not tested
-      pub lane_fault : (from to : ℕ) (rate : M) (why : Refusal) → (from ≢ to) → PairRefused n (length table) from to why ⊎ ((why ≡ NoLaneRate) × InArea n (length table) from to × (K.lane rate ≡ false)) → LaneFault K (shown K n (map means lanes)) from to rate (Refused why)
-      lane_fault from to rate why apart (inl z) = (apart, inl (pair_refused n (length table) from to table_places why z))
-      lane_fault from to rate why apart (inr z) = (apart, inr (z.0, pair_within n (length table) from to z.1, z.2))
-
-      -- why a lane is not taken away
-      pub shut_fault : (from to : ℕ) (rate : M) (why : Refusal) → rate ≡ K.none → PairRefused n (length lanes) from to why ⊎ ((why ≡ NoLaneRate) × InArea n (length lanes) from to × (LaneOrNone K rate → ⊥)) → PairFault (shown K n (map means lanes)) from to (Refused why)
-      shut_fault from to rate why e (inl z) = pair_refused n (length lanes) from to lane_places why z
-      shut_fault from to rate why e (inr z) = absurd (z.2 (inl e))
-
       -- after a lane was set and the table filled
       pub set_in_order : (lanes' table' : List V) (from to : ℕ) (rate : M) (earns : Bool) → NoEarning K (changed K (lane_map K n (map means lanes)) from to rate) → LaneSet K means n lanes lanes' from to rate → length table' ≡ length table → Settled K n (map means lanes') (map means table') earns → InOrder K n (map means lanes') (map means table')
       set_in_order lanes' table' from to rate earns ne s l settled =
@@ -169,33 +121,3 @@ module _ {M : Type 0} (K : Kind M) where
           let f = filled_from h i.few in
           let d = t (map means lanes) f.shows f.none_earns f.best in
           (d.0, λ z e. both_ways earns z (d.1 e))
-
-    -- what the order on a lane is answered with
-    pub lane_answered : (lanes lanes' : List V) (from to : ℕ) (rate : V) (r : Result (Unit {0}) Fault) → Posted K means n lanes lanes' from to rate r → Answered K means (shown K n (map means lanes)) (Lane from to rate) (shown K n (map means lanes')) (without_quotation r)
-    lane_answered lanes lanes' from to rate (Ok done) h = h
-    lane_answered lanes lanes' from to rate (Err fault) h = (h.0, ap (λ list. shown K n (map means list)) h.1)
-
-    pub shut_answered : (lanes lanes' : List V) (from to : ℕ) (r : Result (Unit {0}) Fault) → TakenAway K means n lanes lanes' from to r → Answered K means (shown K n (map means lanes)) (Shut from to) (shown K n (map means lanes')) (without_quotation r)
-    shut_answered lanes lanes' from to (Ok done) h = h
-    shut_answered lanes lanes' from to (Err fault) h = (h.0, ap (λ list. shown K n (map means list)) h.1)
-
-    pub terminals_answered : (before : Network M) (area : List M) → EmptyArea K n area → (r : Result (Unit {0}) Fault) → MatchResult r (λ _. Few n) (CountFault n) → Answered K means before (Terminals n) (shown K n area) (without_quotation r)
-    terminals_answered before area e (Ok done) h = (h, without_lanes n area e)
-    terminals_answered before area e (Err fault) h = (h, without_lanes n area e)
-
-    pub quote_answered : (lanes table : List V) (from to : ℕ) (rate : V) → InOrder K n (map means lanes) (map means table) → InArea n (length table) from to → means rate ≡ entry K n (map means table) from to → Answered K means (shown K n (map means lanes)) (Quote from to) (shown K n (map means lanes)) (Ok (Some (record { from = from; to = to; rate = rate })))
-    quote_answered lanes table from to rate h i e = (
-      pair_within n (length table) from to i,
-      refl,
-      refl,
-      subst (BestRate K (lane_map K n (map means lanes)) from to) (sym e) ((filled_from h i.few).best from to i.from_below i.to_below),
-      refl,
-    )
-
-    -- the same, by other names
-    pub answered_as : (before before' : Network M) (order order' : Order V) (after after' : Network M) (r r' : Result (Option (Quotation V)) Fault) → before ≡ before' → order ≡ order' → after ≡ after' → r ≡ r' → Answered K means before' order' after' r' → Answered K means before order after r
-    answered_as before before' order order' after after' r r' b p q e h =
-        subst (λ z. Answered K means z order after r) (sym b)
-        (subst (λ o. Answered K means before' o after r) (sym p)
-        (subst (λ a. Answered K means before' order' a r) (sym q)
-        (subst (λ x. Answered K means before' order' after' x) (sym e) h)))

@@ -1,18 +1,22 @@
 -- What one more line is answered with.
 -- Assumes nothing.
-use Rattle.std.proofs.Common.{◌≡◌, ℕ, ◌+◌, ◌<◌, List, [], ◌∷◌, ◌++◌, map, length, get_or, take, Ok, Err, Some, Option, Result, string_bytes, sym, refl, ap, ◌∙◌, subst, inr, append_assoc, arith}
+use Rattle.std.proofs.Common.{◌≡◌, ℕ, ◌+◌, ◌<◌, List, [], ◌∷◌, ◌++◌, length, get_or, take, Ok, Err, Some, None, Option, Result, string_bytes, sym, refl, ap, ◌∙◌, subst, inl, inr, append_assoc}
 use Rattle.std.specs.Result.{IfOk}
 use Rattle.std.proofs.lemmas.List.{append-nil, flat_map_more, take_more}
-use Rattle.rates.specs.Kinds.{Kind}
+use Rattle.rates.specs.Kinds.{Kind, Laws}
+use Rattle.trips.specs.Trips.{NoEarning}
+use Rattle.trips.proofs.Walks.{no_earning_fewer}
+use Rattle.trips.proofs.Shown.{shutting_never_earns}
 use Rattle.slow_quotes.specs.declared.order.Order.{Order}
-use Rattle.slow_quotes.specs.declared.quotes.Fault.{Fault}
-use Rattle.slow_quotes.specs.declared.quotes.Fault.TheVariants.{NoKind}
+use Rattle.slow_quotes.specs.declared.order.Order.TheVariants.{Terminals, Lane, Shut, Quote}
+use Rattle.slow_quotes.specs.declared.fault.Fault.{Fault}
+use Rattle.slow_quotes.specs.declared.fault.Fault.TheVariants.{NoKind}
 use Rattle.slow_quotes.specs.declared.quotes.Line.{Line}
-use Rattle.slow_quotes.specs.declared.quotes.Quotation.{Quotation}
+use Rattle.slow_quotes.specs.declared.held.Quotation.{Quotation}
 use Rattle.slow_quotes.specs.Orders.{OrderIs}
-use Rattle.slow_quotes.specs.Networks.{Network, Answered, InOrder, EmptyArea, shown}
+use Rattle.slow_quotes.specs.Networks.{Network, Answered}
 use Rattle.slow_quotes.specs.Quotes.{fault_text, kindless_text, answer_text, LineAnswered, LinesAnswered, QuotedUpTo}
-use Rattle.slow_quotes.proofs.Keeping.{none_held, without_lanes}
+use Rattle.slow_quotes.proofs.Keeping.{no_lanes_earn_not}
 
 -- one more line above the first that names a kind
 pub kindless_more : (lines : List Line) (i : ℕ) (line : Line) (v w : List ℕ) → i < length lines → line ≡ get_or lines i line → v ≡ kindless_text (take i lines) → w ≡ v ++ fault_text line.number NoKind → w ≡ kindless_text (take (i + 1) lines)
@@ -44,17 +48,33 @@ module _ {M V : Type 0} (K : Kind M) (means : V → M) (Reads : List ℕ → Opt
         (lines_more q.first last last' (take i lines) line said next q.answered a));
   }
 
-  nothing_held : EmptyArea K 0 []
-  nothing_held = record { square = λ _. refl; empty = λ _. refl; holds_none = none_held K }
+  -- no closed trip earns after an order, if none did before
+  module _ (X : Laws K) where
+    answered_earns_not : (before after : Network M) (order : Order V) (r : Result (Option (Quotation V)) Fault) → NoEarning K before.lanes → Answered K means before order after r → NoEarning K after.lanes
+    answered_earns_not before after (Terminals n) (Ok None) ne h = no_lanes_earn_not K h.1.none_stands
+    answered_earns_not before after (Terminals n) (Ok (Some q)) ne h = absurd h
+    answered_earns_not before after (Terminals n) (Err fault) ne h = no_lanes_earn_not K h.1.none_stands
+    answered_earns_not before after (Lane ends rate) (Ok None) ne h =
+        no_earning_fewer K X (λ u v _. h.1.lanes_are u v) h.0.none_earns
+    answered_earns_not before after (Lane ends rate) (Ok (Some q)) ne h = absurd h
+    answered_earns_not before after (Lane ends rate) (Err fault) ne h = subst (λ net. NoEarning K net.lanes) (sym h.1) ne
+    answered_earns_not before after (Shut ends) (Ok None) ne h =
+        no_earning_fewer K X (λ u v _. h.1.lanes_are u v) (shutting_never_earns K X before.lanes ne ends.from ends.to)
+    answered_earns_not before after (Shut ends) (Ok (Some q)) ne h = absurd h
+    answered_earns_not before after (Shut ends) (Err fault) ne h = subst (λ net. NoEarning K net.lanes) (sym h.1) ne
+    answered_earns_not before after (Quote ends) (Ok None) ne h = absurd h
+    answered_earns_not before after (Quote ends) (Ok (Some q)) ne h = subst (λ net. NoEarning K net.lanes) (sym h.3) ne
+    answered_earns_not before after (Quote ends) (Err fault) ne h = subst (λ net. NoEarning K net.lanes) (sym h.1) ne
 
-  nothing_quoted : QuotedUpTo K means Reads text [] (shown K 0 []) []
-  nothing_quoted = record { first = shown K 0 []; begins = without_lanes K 0 [] nothing_held; answered = (refl, refl) }
+    line_earns_not : (before after : Network M) (line : Line) (said : List ℕ) → NoEarning K before.lanes → LineAnswered K means Reads text before line after said → NoEarning K after.lanes
+    line_earns_not before after line said ne (inl h) = subst (λ net. NoEarning K net.lanes) (sym h.unchanged) ne
+    line_earns_not before after line said ne (inr h) = answered_earns_not before after h.order h.answer ne h.answered
 
-  -- at first
-  pub none_quoted : (lanes : List V) → lanes ≡ [] → (said : List ℕ) → said ≡ [] → QuotedUpTo K means Reads text [] (shown K 0 (map means lanes)) said
-  none_quoted lanes e said t =
-      subst (λ list. QuotedUpTo K means Reads text [] (shown K 0 (map means list)) said) (sym e)
-      (subst (QuotedUpTo K means Reads text [] (shown K 0 [])) (sym t) nothing_quoted)
+    lines_earn_not : (before after : Network M) (lines : List Line) (said : List ℕ) → NoEarning K before.lanes → LinesAnswered K means Reads text before lines after said → NoEarning K after.lanes
+    lines_earn_not before after [] said ne (e, t) = subst (λ net. NoEarning K net.lanes) (sym e) ne
+    lines_earn_not before after (line ∷ lines) said ne (mid, first, others, a, rest, e) =
+        lines_earn_not mid after lines others (line_earns_not before mid line first ne a) rest
 
-  pub none_kept : (lanes table : List V) → lanes ≡ [] → table ≡ [] → InOrder K 0 (map means lanes) (map means table)
-  none_kept lanes table e t = record { either = inr (λ few. omega (arith, few.some), ap (map means) e, ap (map means) t) }
+    pub quoted_earns_not : (lines : List Line) (last : Network M) (said : List ℕ) → QuotedUpTo K means Reads text lines last said → NoEarning K last.lanes
+    quoted_earns_not lines last said q =
+        lines_earn_not q.first last lines said (no_lanes_earn_not K q.begins.none_stands) q.answered

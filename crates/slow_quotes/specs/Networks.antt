@@ -4,23 +4,18 @@ use Rattle.std.specs.Prelude.{◌≡◌, ℕ, ◌*◌, ◌<◌, ◌≤◌, true,
 use Rattle.rates.specs.Kinds.{Kind}
 use Rattle.trips.specs.Trips.{LaneMap, Earning, NoEarning, BestRate, changed}
 use Rattle.slow.specs.Areas.{most_terminals, Few, InArea, PairRefused, at, lane_map, LaneArea, BestTable}
+use Rattle.slow.specs.declared.best.Ends.{Ends}
 use Rattle.slow.specs.declared.refusal.Refusal.TheVariants.{NoTerminals, TooManyTerminals, NoLaneRate}
 use Rattle.slow_quotes.specs.declared.order.Order.{Order}
 use Rattle.slow_quotes.specs.declared.order.Order.TheVariants.{Terminals, Lane, Shut, Quote}
-use Rattle.slow_quotes.specs.declared.quotes.Fault.{Fault}
-use Rattle.slow_quotes.specs.declared.quotes.Fault.TheVariants.{NoKind, NoOrder, SameTerminal, WouldEarn, Refused}
-use Rattle.slow_quotes.specs.declared.quotes.Held.{Held}
-use Rattle.slow_quotes.specs.declared.quotes.Quotation.{Quotation}
+use Rattle.slow_quotes.specs.declared.fault.Fault.{Fault}
+use Rattle.slow_quotes.specs.declared.fault.Fault.TheVariants.{NoKind, NoOrder, SameTerminal, WouldEarn, Refused}
+use Rattle.slow_quotes.specs.declared.held.Quotation.{Quotation}
 
 -- a network: how many terminals it has, and its lanes
 pub record Network (M : Type 0) : Type 0 where
   pub terminals : ℕ
   pub lanes : LaneMap M
-
--- the answer to an order that asks for no rate
-abbrev pub without_quotation : {V : Type 0} → Result (Unit {0}) Fault → Result (Option (Quotation V)) Fault
-without_quotation (Ok done) = Ok None
-without_quotation (Err fault) = Err fault
 
 -- two terminals of a network of few terminals
 abbrev pub Within : {M : Type 0} → Network M → ℕ → ℕ → Type 0
@@ -73,39 +68,49 @@ module _ {M : Type 0} (K : Kind M) where
   Answered means before (Terminals n) after (Ok None) = Few n × WithoutLanes n after
   Answered means before (Terminals n) after (Ok (Some quotation)) = ⊥
   Answered means before (Terminals n) after (Err fault) = CountFault n fault × WithoutLanes n after
-  Answered means before (Lane from to rate) after (Ok None) =
-      LaneFits before from to (means rate) × LaneChanged before from to (means rate) after
-  Answered means before (Lane from to rate) after (Ok (Some quotation)) = ⊥
-  Answered means before (Lane from to rate) after (Err fault) = LaneFault before from to (means rate) fault × (after ≡ before)
-  Answered means before (Shut from to) after (Ok None) = Within before from to × LaneChanged before from to K.none after
-  Answered means before (Shut from to) after (Ok (Some quotation)) = ⊥
-  Answered means before (Shut from to) after (Err fault) = PairFault before from to fault × (after ≡ before)
-  Answered means before (Quote from to) after (Ok None) = ⊥
-  Answered means before (Quote from to) after (Ok (Some quotation)) =
-      Within before from to × (quotation.from ≡ from) × (quotation.to ≡ to) × BestRate K before.lanes from to (means quotation.rate)
-      × (after ≡ before)
-  Answered means before (Quote from to) after (Err fault) = PairFault before from to fault × (after ≡ before)
+  Answered means before (Lane ends rate) after (Ok None) =
+      LaneFits before ends.from ends.to (means rate) × LaneChanged before ends.from ends.to (means rate) after
+  Answered means before (Lane ends rate) after (Ok (Some quotation)) = ⊥
+  Answered means before (Lane ends rate) after (Err fault) =
+      LaneFault before ends.from ends.to (means rate) fault × (after ≡ before)
+  Answered means before (Shut ends) after (Ok None) =
+      Within before ends.from ends.to × LaneChanged before ends.from ends.to K.none after
+  Answered means before (Shut ends) after (Ok (Some quotation)) = ⊥
+  Answered means before (Shut ends) after (Err fault) = PairFault before ends.from ends.to fault × (after ≡ before)
+  Answered means before (Quote ends) after (Ok None) = ⊥
+  Answered means before (Quote ends) after (Ok (Some quotation)) =
+      Within before ends.from ends.to × (quotation.ends ≡ ends)
+      × BestRate K before.lanes ends.from ends.to (means quotation.rate) × (after ≡ before)
+  Answered means before (Quote ends) after (Err fault) = PairFault before ends.from ends.to fault × (after ≡ before)
 
   -- the network of n terminals that an area shows
   abbrev pub shown : ℕ → List M → Network M
   shown n area = record { terminals = n; lanes = lane_map K n area }
 
-  module _ {V : Type 0} (means : V → M) (n : ℕ) where
-    -- the network that an area of values shows
-    abbrev pub network : List V → Network M
-    network area = shown n (map means area)
+  module _ {V : Type 0} (means : V → M) where
+    -- the network that so many terminals and an area of values show
+    abbrev pub network_of : ℕ × List V → Network M
+    network_of held = shown held.0 (map means held.1)
 
     -- a lane was given a rate, or the reason why not
-    abbrev pub Posted : (before after : List V) → (from to : ℕ) → V → Result (Unit {0}) Fault → Type 0
-    Posted before after from to rate result =
-        MatchResult result (λ _. LaneFits (network before) from to (means rate) × LaneChanged (network before) from to (means rate) (network after))
-        (λ fault. LaneFault (network before) from to (means rate) fault × (after ≡ before))
+    abbrev pub Posted : (before after : ℕ × List V) → Ends → V → Result (Unit {0}) Fault → Type 0
+    Posted before after ends rate result =
+        MatchResult result (λ _. LaneFits (network_of before) ends.from ends.to (means rate)
+        × LaneChanged (network_of before) ends.from ends.to (means rate) (network_of after))
+        (λ fault. LaneFault (network_of before) ends.from ends.to (means rate) fault × (after ≡ before))
 
     -- a lane was taken away, or the reason why not
-    abbrev pub TakenAway : (before after : List V) → (from to : ℕ) → Result (Unit {0}) Fault → Type 0
-    TakenAway before after from to result =
-        MatchResult result (λ _. Within (network before) from to × LaneChanged (network before) from to K.none (network after))
-        (λ fault. PairFault (network before) from to fault × (after ≡ before))
+    abbrev pub TakenAway : (before after : ℕ × List V) → Ends → Result (Unit {0}) Fault → Type 0
+    TakenAway before after ends result =
+        MatchResult result (λ _. Within (network_of before) ends.from ends.to × LaneChanged (network_of before) ends.from ends.to K.none (network_of after))
+        (λ fault. PairFault (network_of before) ends.from ends.to fault × (after ≡ before))
+
+    -- the best rate between two terminals, or the reason why there is none
+    abbrev pub LookedFor : ℕ × List V → Ends → Result (Quotation V) Fault → Type 0
+    LookedFor held ends result =
+        MatchResult result (λ quotation. Within (network_of held) ends.from ends.to × (quotation.ends ≡ ends)
+        × BestRate K (network_of held).lanes ends.from ends.to (means quotation.rate))
+        (PairFault (network_of held) ends.from ends.to)
 
   -- An area that shows a network in which no closed trip earns, and the table of its best rates.
   pub record Filled (n : ℕ) (area table : List M) : Type 0 where
@@ -123,10 +128,3 @@ module _ {M : Type 0} (K : Kind M) where
     pub square : n ≤ most_terminals → length area ≡ n * n
     pub empty : most_terminals < n → area ≡ []
     pub holds_none : (k : ℕ) → at K area k ≡ K.none
-
-  -- the network that is held, and that what is held of it is in order
-  abbrev pub network_of : {V : Type 0} → (V → M) → Held V → Network M
-  network_of means held = shown held.n (map means held.lanes.items)
-
-  abbrev pub Kept : {V : Type 0} → (V → M) → Held V → Type 0
-  Kept means held = InOrder held.n (map means held.lanes.items) (map means held.table.items)

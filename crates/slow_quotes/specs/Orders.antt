@@ -34,9 +34,9 @@ module _ {R : Type 0} (Reads : List ℕ → Option R → Type 0) where
   abbrev pub Means : List (List ℕ) → Option (Order R) → Type 0
   Means ws None = NamesNone ws
   Means ws (Some (Terminals n)) = NamesTerminals ws n
-  Means ws (Some (Lane a b rate)) = (word : List ℕ) × NamesLane ws a b word × Reads word (Some rate)
-  Means ws (Some (Shut a b)) = NamesShut ws a b
-  Means ws (Some (Quote a b)) = NamesQuote ws a b
+  Means ws (Some (Lane ends rate)) = (word : List ℕ) × NamesLane ws ends.from ends.to word × Reads word (Some rate)
+  Means ws (Some (Shut ends)) = NamesShut ws ends.from ends.to
+  Means ws (Some (Quote ends)) = NamesQuote ws ends.from ends.to
 
   -- what the line orders: what its words mean
   abbrev pub OrderIs : List ℕ → Option (Order R) → Type 0

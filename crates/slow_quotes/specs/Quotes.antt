@@ -9,27 +9,15 @@ use Rattle.rates.specs.Loads.{tonnes_kind}
 use Rattle.rates.specs.Meanings.{amount_of, load_of}
 use Rattle.rates.specs.Pairs.{couple_of, pair_kind}
 use Rattle.trips.specs.Trips.{NoEarning}
-use Rattle.slow.specs.declared.refusal.Refusal.TheVariants.{NoTerminals, TooManyTerminals, WrongLength, NoRate, NoTerminal, NoLaneRate}
 use Rattle.slow_quotes.specs.declared.order.Order.{Order}
-use Rattle.slow_quotes.specs.declared.quotes.Fault.{Fault}
-use Rattle.slow_quotes.specs.declared.quotes.Fault.TheVariants.{NoKind, NoOrder, SameTerminal, WouldEarn, Refused}
+use Rattle.slow_quotes.specs.declared.fault.Fault.{Fault}
+use Rattle.slow_quotes.specs.declared.fault.Fault.TheVariants.{NoKind, NoOrder}
 use Rattle.slow_quotes.specs.declared.quotes.Line.{Line}
-use Rattle.slow_quotes.specs.declared.quotes.Quotation.{Quotation}
+use Rattle.slow_quotes.specs.declared.held.Quotation.{Quotation}
+use Rattle.slow_quotes.specs.Faults.{reason}
+use Rattle.slow_quotes.specs.KindNames.{cents_name, tonnes_name, pairs_name, NamesKind}
 use Rattle.slow_quotes.specs.Orders.{OrderIs}
 use Rattle.slow_quotes.specs.Networks.{Network, WithoutLanes, Answered}
-
--- what is printed of a fault
-abbrev pub reason : Fault → List ℕ
-reason NoKind = codes "no kind of rate is named yet"
-reason NoOrder = codes "no order"
-reason SameTerminal = codes "a lane leads to another terminal"
-reason WouldEarn = codes "a closed trip would earn"
-reason (Refused NoTerminals) = codes "no terminals"
-reason (Refused TooManyTerminals) = codes "too many terminals: 64 at most"
-reason (Refused NoTerminal) = codes "no such terminal"
-reason (Refused NoLaneRate) = codes "no lane rate of this kind"
-reason (Refused WrongLength) = codes "an area of the wrong length"
-reason (Refused (NoRate k)) = codes "a place that holds no rate"
 
 -- the message of a line at fault
 abbrev pub fault_text : ℕ → Fault → List ℕ
@@ -41,7 +29,7 @@ kindless_text lines = flat_map (λ line. fault_text line.number NoKind) lines
 
 -- the text of a quoted rate
 abbrev pub quotation_text : {V : Type 0} → (V → List ℕ) → Quotation V → List ℕ
-quotation_text text q = decimal q.from ++ (codes " to " ++ (decimal q.to ++ (codes ": " ++ (text q.rate ++ codes "\n"))))
+quotation_text text q = decimal q.ends.from ++ (codes " to " ++ (decimal q.ends.to ++ (codes ": " ++ (text q.rate ++ codes "\n"))))
 
 -- what is printed of the answer to a line
 abbrev pub answer_text : {V : Type 0} → (V → List ℕ) → ℕ → Result (Option (Quotation V)) Fault → List ℕ
@@ -86,19 +74,6 @@ module _ {M V : Type 0} (K : Kind M) (means : V → M) (Reads : List ℕ → Opt
     pub last : Network M
     pub up_to : QuotedUpTo lines last said
     pub none_earns : NoEarning K last.lanes
-
--- the names of the kinds
-abbrev pub cents_name : List ℕ
-cents_name = codes "cents"
-
-abbrev pub tonnes_name : List ℕ
-tonnes_name = codes "tonnes"
-
-abbrev pub pairs_name : List ℕ
-pairs_name = codes "cents before tonnes"
-
-abbrev pub NamesKind : List ℕ → Type 0
-NamesKind name = (name ≡ cents_name) ⊎ (name ≡ tonnes_name) ⊎ (name ≡ pairs_name)
 
 abbrev pub CentsQuoted : List Line → List ℕ → Type 0
 CentsQuoted = Quoted cents_kind amount_of CentsRead cents_text

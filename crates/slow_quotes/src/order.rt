@@ -4,6 +4,7 @@ ghost use Rattle.slow_quotes.specs.Orders.{Means, OrderIs};
 ghost use Rattle.words.specs.Words.{Listed};
 
 use offers::written::Written;
+use slow::best::Ends;
 use words::{FewWords, number_of, up_to_four};
 
 // What a line orders of a network.
@@ -11,12 +12,12 @@ use words::{FewWords, number_of, up_to_four};
 pub enum Order<R> {
     // A new network of so many terminals, no lane of which stands.
     Terminals(usize),
-    // A rate for the lane from one terminal to another.
-    Lane(usize, usize, R),
+    // A rate for the lane with these ends.
+    Lane(Ends, R),
     // That lane is to stand no more.
-    Shut(usize, usize),
+    Shut(Ends),
     // The best rate from one terminal to another.
-    Quote(usize, usize),
+    Quote(Ends),
 }
 
 // The order that the words of a line name, if they name one.
@@ -25,11 +26,19 @@ fn named<R: Written>(words: FewWords<'_>) -> Option<Order<R>>
 {
     match words {
         FewWords::Two("terminals", count) => Some(Order::Terminals(number_of(count)?)),
-        FewWords::Three("shut", from, to) => Some(Order::Shut(number_of(from)?, number_of(to)?)),
-        FewWords::Three("quote", from, to) => Some(Order::Quote(number_of(from)?, number_of(to)?)),
+        FewWords::Three("shut", from, to) => Some(Order::Shut(Ends {
+            from: number_of(from)?,
+            to: number_of(to)?,
+        })),
+        FewWords::Three("quote", from, to) => Some(Order::Quote(Ends {
+            from: number_of(from)?,
+            to: number_of(to)?,
+        })),
         FewWords::Four("lane", from, to, rate) => Some(Order::Lane(
-            number_of(from)?,
-            number_of(to)?,
+            Ends {
+                from: number_of(from)?,
+                to: number_of(to)?,
+            },
             R::read(rate)?,
         )),
         _ => None,

@@ -1,8 +1,8 @@
 -- The bytes of the number that some bytes write, read big-endian, are those bytes.
 -- Assumes that bytes are below 256.
-use Rattle.std.proofs.Common.{◌≡◌, ℕ, ◌+◌, ◌*◌, ◌/◌, ◌%◌, ◌^◌, ◌<◌, ◌≤◌, List, [], ◌∷◌, length, get_or, take, drop, ℤ, pos, negsuc, sym, refl, ap, ◌∙◌, arith, w32, SFits, to_z, of_z}
+use Rattle.std.proofs.Common.{◌≡◌, ℕ, ◌+◌, ◌*◌, ◌/◌, ◌%◌, ◌^◌, ◌<◌, ◌≤◌, List, [], ◌∷◌, length, get_or, take, drop, ℤ, pos, negsuc, sym, refl, ap, ◌∙◌, arith, w32, to_z, of_z}
 use Rattle.std.proofs.lemmas.List.{drop_more}
-use Rattle.std.proofs.lemmas.Int.{of_z-to_z, to_z-of_z}
+use Rattle.std.proofs.lemmas.Int.{of_z-to_z}
 use Rattle.tape.specs.Areas.{piece}
 use Rattle.tape.specs.Contents.{two, four, bits}
 
@@ -36,6 +36,15 @@ four_back a b c d n ha hb hc hd e =
     let s : n % 256 ≡ d = omega arith in
     cc
 
+-- a number read from the bytes at a place writes them again
+pub two_at : (xs : List ℕ) (i n : ℕ) → ((k : ℕ) → get_or xs k 0 < 256) → i + 2 ≤ length xs → n ≡ get_or xs i 0 * 256 + get_or xs (i + 1) 0 → two n ≡ piece xs i 2
+two_at xs i n small h e = two_back (get_or xs i 0) (get_or xs (i + 1) 0) n (small i) (small (i + 1)) e ∙ sym (piece_two xs i h)
+
+pub four_at : (xs : List ℕ) (i n : ℕ) → ((k : ℕ) → get_or xs k 0 < 256) → i + 4 ≤ length xs → n ≡ get_or xs i 0 * 16777216 + get_or xs (i + 1) 0 * 65536 + get_or xs (i + 2) 0 * 256 + get_or xs (i + 3) 0 → four n ≡ piece xs i 4
+four_at xs i n small h e =
+    four_back (get_or xs i 0) (get_or xs (i + 1) 0) (get_or xs (i + 2) 0) (get_or xs (i + 3) 0) n (small i) (small (i + 1)) (small (i + 2)) (small (i + 3)) e
+    ∙ sym (piece_four xs i h)
+
 -- the signed reading of 32 bits has these bits
 pub bits_is : (z : ℤ) → bits z ≡ of_z w32 z
 bits_is (pos n) = refl
@@ -48,6 +57,3 @@ bits_back n h = bits_is (to_z w32 n) ∙ of_z-to_z w32 n h
 pub signed_back : (n : ℕ) (z : ℤ) → n < 2 ^ 32 → z ≡ to_z w32 n → four (bits (to_z w32 (of_z w32 z))) ≡ four n
 signed_back n z small e =
     ap four (ap (λ y. bits (to_z w32 (of_z w32 y))) e ∙ ap (λ m. bits (to_z w32 m)) (of_z-to_z w32 n small) ∙ bits_back n small)
-
-pub bits_through : (z : ℤ) → SFits w32 z → of_z w32 (to_z w32 (of_z w32 z)) ≡ bits z
-bits_through z h = ap (of_z w32) (to_z-of_z w32 z h) ∙ sym (bits_is z)

@@ -4,7 +4,8 @@ mod Lengths
 mod OneMeaning
 mod Pieces
 mod Puts
-mod Rewriting
+pub mod Rewriting
+pub mod Showing
 pub mod RoundTrips
 pub mod Runs
 pub mod SameContent

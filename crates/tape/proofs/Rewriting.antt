@@ -31,6 +31,9 @@ module _ (t : List ℕ) (r : Record) (s : Stands t (part r)) where
       ap (λ k. record { kind = k; place = r.place; body = r.body.now }) (sym h.kind)
       ∙ ap (λ b. record { kind = kind_of c; place = r.place; body = b }) (sym body)
 
+  pub placed_part : (x : Placed) → x.place ≡ r.place → Says r x.content → part r ≡ part_of x
+  placed_part x e h = says_part x.content h ∙ ap (λ p. record { kind = kind_of x.content; place = p; body = body_of x.content }) (sym e)
+
 module _ (t : List ℕ) (x : Placed) (s : Stands t (part_of x)) where
   pub bytes_long : x.place + length (record_bytes x.content) ≡ behind (part_of x)
   bytes_long = let l = body_long x.content in omega arith

@@ -1,22 +1,17 @@
 -- A run of the reader: what it has shown so far, followed by the meaning of what is left, is the tape's meaning.
 -- Assumes what one call of the reader shows.
-use Rattle.std.proofs.Common.{◌≡◌, ℕ, List, [], ◌∷◌, ◌++◌, length, Some, None, Ok, Option, sym, ap, ◌∙◌, subst}
+use Rattle.std.proofs.Common.{◌≡◌, ℕ, List, [], ◌∷◌, ◌++◌, length, Some, None, Ok, Err, Option, Result, sym, ap, ◌∙◌, subst}
 use Rattle.std.proofs.lemmas.List.{append_assoc, append-nil}
 use Rattle.tape.specs.declared.records.Record.{Record}
-use Rattle.tape.specs.declared.contents.Placed.{Placed}
 use Rattle.tape.specs.declared.faults.TapeFault.{TapeFault}
 use Rattle.tape.specs.declared.faults.Reason.{Reason}
 use Rattle.tape.specs.declared.faults.Reason.TheVariants.{UnknownKind, CutShort, OutOfTurn, PlanTooLarge, TapeTooLong}
 use Rattle.tape.specs.Tape.{Part, Ending, regular, faulty, From, at_end, at_unknown, at_cut, at_record, Means}
-use Rattle.tape.specs.Laws.{part_of}
-use Rattle.tape.specs.Reads.{part, WrongAt, Faulted, Shown, NextIs, NextContentIs}
+use Rattle.tape.specs.Reads.{part, WrongAt, Faulted, Shown, NextIs, ItemIs}
 
 -- the records before a place
 pub record Before (t : List ℕ) (p : ℕ) (shown : List Part) : Type 0 where
   pub goes_on : (rs : List Part) (e : Ending) → From t p rs e → Means t (shown ++ rs) e
-
-pub none_before : (t : List ℕ) → Before t 0 []
-none_before t = record { goes_on = λ rs e m. m }
 
 pub one_more : (t : List ℕ) (p q : ℕ) (shown : List Part) (x : Part) → Before t p shown → Shown t p x q → Before t q (shown ++ x ∷ [])
 one_more t p q shown x b s =
@@ -43,19 +38,17 @@ fault_before t p q shown f b w =
     (b.goes_on [] (faulty f)
     (subst (λ v. From t p [] (faulty (record { reason = f.reason; place = v }))) (sym w.place) (wrong_from t p f.reason w.wrong)))
 
--- what a call answers, of the tape t that the reader's own is
+-- what a call answers, where it shows a record
 pub shows_record : (t u : List ℕ) (p q : ℕ) (o : Option Record) (r : Record) → u ≡ t → o ≡ Some r → NextIs u p (Ok o) q → Shown t p (part r) q
 shows_record t u p q o r e is n = subst (λ v. Shown v p (part r) q) e (subst (λ v. NextIs u p (Ok v) q) is n)
 
-pub shows_end : (t u : List ℕ) (p q : ℕ) (o : Option Record) → u ≡ t → o ≡ None → NextIs u p (Ok o) q → p ≡ length t
-shows_end t u p q o e is n = (subst (λ v. NextIs u p (Ok v) q) is n).0 ∙ ap length e
+-- what an item is, of the tape t that the reader's own is
+module _ (t u : List ℕ) (p q : ℕ) (o : Option (Result Record TapeFault)) (same : u ≡ t) (item : ItemIs u p o q) where
+  pub item_record : (i : Result Record TapeFault) (r : Record) → o ≡ Some i → i ≡ Ok r → Shown t p (part r) q
+  item_record i r is ok = subst (λ v. Shown v p (part r) q) same (subst (λ v. ItemIs u p v q) (is ∙ ap Some ok) item)
 
-pub shows_fault : (t u : List ℕ) (p q : ℕ) (f : TapeFault) → u ≡ t → Faulted u p f q → Faulted t p f q
-shows_fault t u p q f e n = subst (λ v. Faulted v p f q) e n
+  pub item_fault : (i : Result Record TapeFault) (f : TapeFault) → o ≡ Some i → i ≡ Err f → Faulted t p f q
+  item_fault i f is err = subst (λ v. Faulted v p f q) same (subst (λ v. ItemIs u p v q) (is ∙ ap Some err) item)
 
--- the same of a call that shows contents
-pub shows_content : (t u : List ℕ) (p q : ℕ) (o : Option Placed) (x : Placed) → u ≡ t → o ≡ Some x → NextContentIs u p (Ok o) q → Shown t p (part_of x) q
-shows_content t u p q o x e is n = subst (λ v. Shown v p (part_of x) q) e (subst (λ v. NextContentIs u p (Ok v) q) is n)
-
-pub shows_content_end : (t u : List ℕ) (p q : ℕ) (o : Option Placed) → u ≡ t → o ≡ None → NextContentIs u p (Ok o) q → p ≡ length t
-shows_content_end t u p q o e is n = (subst (λ v. NextContentIs u p (Ok v) q) is n).0 ∙ ap length e
+  pub item_none : o ≡ None → p ≡ length t
+  item_none is = (subst (λ v. ItemIs u p v q) is item).0 ∙ ap length same

@@ -1,7 +1,8 @@
 -- The ten kinds of record: the byte of each and the length of its body.
 -- Assumes nothing.
-use Rattle.std.specs.Prelude.{◌≡◌, ℕ, ◌≤◌, Some, None, Option, ◌≢◌}
+use Rattle.std.specs.Prelude.{◌≡◌, ℕ, ◌≤◌, List, Some, None, Option, Result, Ok, IfOk, MatchResult, ◌≢◌, codes}
 use Rattle.tape.specs.declared.kinds.Kind.{Kind}
+use Rattle.tape.specs.declared.kinds.NoKind.{NoKind}
 use Rattle.tape.specs.declared.kinds.Kind.TheVariants.{Head, Link, PlanEnd, Post, Shut, Try, Keep, Withdraw, Quote, Route}
 
 -- how a kind of record is laid out
@@ -36,6 +37,28 @@ Unknown b = (k : Kind) → kind_byte k ≢ b
 abbrev pub KindOf : ℕ → Option Kind → Type 0
 KindOf b (Some k) = kind_byte k ≡ b
 KindOf b None = Unknown b
+
+-- the kind that has the byte, or an error where no kind has it
+abbrev pub Decodes : ℕ → Result Kind NoKind → Type 0
+Decodes b r = MatchResult r (λ k. kind_byte k ≡ b) (λ _. Unknown b)
+
+-- the names of the kinds
+abbrev pub kind_name : Kind → List ℕ
+kind_name Head = codes "head"
+kind_name Link = codes "link"
+kind_name PlanEnd = codes "plan-end"
+kind_name Post = codes "post"
+kind_name Shut = codes "shut"
+kind_name Try = codes "try"
+kind_name Keep = codes "keep"
+kind_name Withdraw = codes "withdraw"
+kind_name Quote = codes "quote"
+kind_name Route = codes "route"
+
+-- the kind that has the name, or an error where no kind has it
+pub record Named (name : List ℕ) (r : Result Kind NoKind) : Type 0 where
+  pub is : IfOk r (λ k. name ≡ kind_name k)
+  pub back : (k : Kind) → name ≡ kind_name k → r ≡ Ok k
 
 -- The ten kinds have the bytes 1 to 10, each its own.
 pub record Numbered : Type 0 where

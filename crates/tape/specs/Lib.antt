@@ -3,6 +3,7 @@ pub mod Faults
 pub mod Tape
 pub mod Reads
 pub mod Contents
+pub mod Texts
 pub mod Areas
 pub mod Views
 pub mod Writes

@@ -44,3 +44,9 @@ abbrev pub NextContentIs : List ℕ → ℕ → Result (Option Placed) TapeFault
 NextContentIs t p (Ok None) q = (p ≡ length t) × (q ≡ p)
 NextContentIs t p (Ok (Some x)) q = Shown t p (part_of x) q
 NextContentIs t p (Err f) q = Faulted t p f q
+
+-- the same of an item: a record or a fault, or nothing at the end
+abbrev pub ItemIs : List ℕ → ℕ → Option (Result Record TapeFault) → ℕ → Type 0
+ItemIs t p None q = (p ≡ length t) × (q ≡ p)
+ItemIs t p (Some (Ok r)) q = Shown t p (part r) q
+ItemIs t p (Some (Err f)) q = Faulted t p f q

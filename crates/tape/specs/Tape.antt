@@ -40,6 +40,10 @@ pub data Ending : Type 0 where
   regular : Ending
   faulty : TapeFault → Ending
 
+-- the fault of a record at the place whose body is not all there
+abbrev pub cut_short : ℕ → TapeFault
+cut_short p = record { reason = CutShort; place = p }
+
 abbrev pub fault : Reason → ℕ → Ending
 fault why p = faulty (record { reason = why; place = p })
 

@@ -1,41 +1,46 @@
 // What is wrong with a tape, and how a fault of any layer is carried up.
-ghost use Rattle.std.specs.Prelude.{◌≡◌};
-ghost use Rattle.tape.specs.Faults.{reason_number, layer_number, told_tape, told_writing};
+ghost use Rattle.std.specs.Prelude.{◌≡◌, Some};
+ghost use Rattle.tape.specs.Faults.{reason_number, reason_text, layer_number, told_tape, told_writing, refusal_text, fault_text};
 
-// Why a tape is refused. The reader finds the first two; the other three are found by whoever plays the tape.
-#[derive(Clone, Copy)]
+use std::error::Error;
+use std::fmt;
+
+// Why a tape is refused, each with the number that names it to the tape's writer. The reader finds
+// the first two; the other three are found by whoever plays the tape.
+#[derive(Clone, Copy, Debug, PartialEq, Eq)]
 pub enum Reason {
-    UnknownKind,
-    CutShort,
-    OutOfTurn,
-    PlanTooLarge,
-    TapeTooLong,
+    UnknownKind = 21,
+    CutShort = 22,
+    OutOfTurn = 23,
+    PlanTooLarge = 24,
+    TapeTooLong = 25,
 }
 
 // A fault of a tape, at the place of its record: the number of bytes before it.
-#[derive(Clone, Copy)]
+#[derive(Clone, Copy, Debug, PartialEq, Eq)]
 pub struct TapeFault {
     pub reason: Reason,
     pub place: usize,
 }
 
 // Why a record is not written.
-#[derive(Clone, Copy)]
+#[derive(Clone, Copy, Debug, PartialEq, Eq)]
 pub enum WriteFault {
     AreaTooShort,
 }
 
-// The layer that finds a fault.
-#[derive(Clone, Copy)]
+// The layer that finds a fault, each with the number that names it in an answer.
+#[derive(Clone, Copy, Debug, PartialEq, Eq)]
 pub enum Layer {
-    Tape,
-    Book,
-    Rate,
+    Tape = 1,
+    Book = 2,
+    Rate = 3,
 }
 
 // A fault of any layer, as it is carried up whole. A layer joins by a `From` of its own faults.
 // Only the refusal of a link names a link's index; elsewhere it is 0.
-#[derive(Clone, Copy)]
+// Four numbers and no enum of enums: an answer to C is these four, and layers above add their own.
+#[derive(Clone, Copy, Debug, PartialEq, Eq)]
 pub struct Fault {
     pub layer: Layer,
     pub number: u8,
@@ -48,26 +53,56 @@ impl Reason {
     pub fn code(self) -> u8
         ensures { result ≡ reason_number self }
     {
-        match self {
-            Reason::UnknownKind => 21,
-            Reason::CutShort => 22,
-            Reason::OutOfTurn => 23,
-            Reason::PlanTooLarge => 24,
-            Reason::TapeTooLong => 25,
-        }
+        self as u8
     }
 }
+
+impl fmt::Display for Reason {
+    ghost output = { λ r. Some (reason_text r) };
+
+    fn fmt<W: fmt::Write>(&self, f: &mut fmt::Formatter<W>) -> fmt::Result {
+        f.write_str(match self {
+            Reason::UnknownKind => "unknown kind of record",
+            Reason::CutShort => "cut short",
+            Reason::OutOfTurn => "record out of turn",
+            Reason::PlanTooLarge => "plan too large",
+            Reason::TapeTooLong => "tape too long",
+        })
+    }
+}
+
+// The number of the reason, the place, and the reason in words.
+impl fmt::Display for TapeFault {
+    ghost output = { λ e. Some (fault_text e) };
+
+    fn fmt<W: fmt::Write>(&self, f: &mut fmt::Formatter<W>) -> fmt::Result {
+        let number = self.reason.code();
+        let place = self.place;
+        let reason = self.reason;
+        write!(f, "fault {number} at {place}: {reason}")
+    }
+}
+
+impl Error for TapeFault {}
+
+impl fmt::Display for WriteFault {
+    ghost output = { λ e. Some (refusal_text e) };
+
+    fn fmt<W: fmt::Write>(&self, f: &mut fmt::Formatter<W>) -> fmt::Result {
+        f.write_str(match self {
+            WriteFault::AreaTooShort => "area too short",
+        })
+    }
+}
+
+impl Error for WriteFault {}
 
 impl Layer {
     // The number that names the layer in an answer.
     pub fn code(self) -> u8
         ensures { result ≡ layer_number self }
     {
-        match self {
-            Layer::Tape => 1,
-            Layer::Book => 2,
-            Layer::Rate => 3,
-        }
+        self as u8
     }
 }
 

@@ -9,11 +9,12 @@ mod laws;
 mod reading;
 mod records;
 mod tapes;
+mod texts;
 mod writing;
 
 pub use contents::{Content, Ends, HeadFields, LaneRate, Placed};
 pub use faults::{Fault, Layer, Reason, TapeFault, WriteFault};
-pub use kinds::Kind;
+pub use kinds::{Kind, NoKind};
 pub use laws::{one_meaning, reads_back, ten_kinds, writes_back};
 pub use reading::Reader;
 pub use records::Record;

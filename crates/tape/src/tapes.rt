@@ -8,13 +8,13 @@ use crate::contents::Content;
 use crate::faults::{Fault, WriteFault};
 use crate::reading::Reader;
 
-// The number of records on a regular tape, or its fault.
+// The number of records on a regular tape, or its fault. No `count`, which would not stop at a fault.
 pub fn count_records(tape: &[u8]) -> Result<usize, Fault>
     ensures { Counts tape.now result }
 {
-    let mut reader = Reader::new(tape);
     let mut n = 0;
-    while let Some(_record) = reader.next_record()? {
+    for record in Reader::new(tape) {
+        let _ = record?;
         n += 1;
     }
     Ok(n)
@@ -26,11 +26,10 @@ fn fit_in(contents: &[Content], room: usize) -> bool
 {
     let mut left = room;
     for content in contents {
-        let long = content.length();
-        if left < long {
+        let Some(rest) = left.checked_sub(content.length()) else {
             return false;
-        }
-        left -= long;
+        };
+        left = rest;
     }
     true
 }
@@ -60,10 +59,10 @@ pub fn rewrite(tape: &[u8], area: &mut [u8]) -> Result<usize, Fault>
     if area.len() < tape.len() {
         return Err(Fault::from(WriteFault::AreaTooShort));
     }
-    let mut reader = Reader::new(tape);
     let mut at = 0;
-    while let Some(x) = reader.next_content()? {
-        at += x.content.write(&mut area[at..])?;
+    for record in Reader::new(tape) {
+        let content = record?.content()?;
+        at += content.write(&mut area[at..])?;
     }
     Ok(at)
 }

@@ -1,15 +1,23 @@
 // The writer: puts records into an area as bytes.
-ghost use Rattle.std.specs.Prelude.{◌≡◌, length};
+ghost use Rattle.std.specs.Prelude.{◌≡◌, ◌+◌, ◌≤◌, length};
+ghost use Rattle.tape.specs.Areas.{put_in};
 ghost use Rattle.tape.specs.Contents.{kind_of, record_bytes};
 ghost use Rattle.tape.specs.Writes.{Wrote};
 
 use crate::contents::Content;
 use crate::faults::WriteFault;
-use crate::fields::{put_ends, put_head, put_lane_rate};
 use crate::kinds::Kind;
 
+// Puts a body into the area, behind the byte of its kind.
+fn put_body(area: &mut [u8], body: &[u8])
+    requires { 1 + length body.now ≤ length area.old }
+    ensures { area.new ≡ put_in area.old 1 body.now }
+{
+    area[1..1 + body.len()].copy_from_slice(body);
+}
+
 impl Content {
-    // The kind of record that says this.
+    // The kind of record that says this: an arm for each kind, since no derive names a variant without its fields.
     pub fn kind(&self) -> Kind
         ensures { result ≡ kind_of self.now }
     {
@@ -44,10 +52,10 @@ impl Content {
         }
         area[0] = self.kind().byte();
         match self {
-            Content::Head(h) => put_head(area, 1, *h),
-            Content::Post(l) | Content::Try(l) => put_lane_rate(area, 1, *l),
+            Content::Head(h) => put_body(area, &<[u8; 11]>::from(*h)),
+            Content::Post(l) | Content::Try(l) => put_body(area, &<[u8; 12]>::from(*l)),
             Content::Link(e) | Content::Shut(e) | Content::Quote(e) | Content::Route(e) => {
-                put_ends(area, 1, *e)
+                put_body(area, &<[u8; 4]>::from(*e))
             }
             Content::PlanEnd | Content::Keep | Content::Withdraw => {}
         }

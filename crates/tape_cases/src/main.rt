@@ -24,13 +24,11 @@ fn nibble(b: u8) -> u8
 fn unhex(heap: Global, digits: &[u8]) -> Result<Vec<u8>, AllocError>
     ensures { IfOk result (λ v. vec_len v ≡ length digits.now / 2) }
 {
-    let mut bytes = Vec::new(heap);
-    for i in 0..digits.len() / 2 {
-        let high = nibble(digits[2 * i]);
-        let low = nibble(digits[2 * i + 1]);
-        bytes.push(16 * high + low)?;
-    }
-    Ok(bytes)
+    let (pairs, _) = digits.as_chunks::<2>();
+    pairs
+        .iter()
+        .map(|[high, low]| 16 * nibble(*high) + nibble(*low))
+        .collect(heap)
 }
 
 fn main(rt: HostRuntime) -> io::Result<()> {

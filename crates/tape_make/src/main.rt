@@ -5,7 +5,7 @@
 use std::io;
 use std::io::Write;
 use std::process::ExitCode;
-use tape_text::{MakeFault, make_tape};
+use tape_text::make_tape;
 
 fn main(rt: HostRuntime) -> io::Result<ExitCode> {
     let text = io::read_to_string(rt.alloc(), rt.stdin())?;
@@ -14,12 +14,8 @@ fn main(rt: HostRuntime) -> io::Result<ExitCode> {
             rt.stdout().write_all(tape.as_slice())?;
             Ok(ExitCode::SUCCESS)
         }
-        Err(MakeFault::BadLine(n)) => {
-            eprintln!(rt; "line {n}: not a record")?;
-            Ok(ExitCode::FAILURE)
-        }
-        Err(MakeFault::NoMemory) => {
-            eprintln!(rt; "no memory")?;
+        Err(fault) => {
+            eprintln!(rt; "{fault}")?;
             Ok(ExitCode::FAILURE)
         }
     }
@@ -28,24 +24,28 @@ fn main(rt: HostRuntime) -> io::Result<ExitCode> {
 #[cfg(test)]
 mod tests {
     use super::*;
+    use tape_text::MakeFault;
 
-    // The line that a text is refused for, or 0.
-    fn bad_line(rt: &HostRuntime, text: &str) -> usize {
+    // The line that a text is refused for, if it is.
+    fn bad_line(rt: &HostRuntime, text: &str) -> Option<usize> {
         match make_tape(rt.alloc(), text) {
-            Err(MakeFault::BadLine(n)) => n,
-            _ => 0,
+            Err(MakeFault::BadLine(n)) => Some(n),
+            _ => None,
         }
     }
 
     #[test]
     fn names_the_bad_line(rt: HostRuntime) {
-        assert_eq!(rt; bad_line(&rt, "keep\n\n# remark\n 7: withdraw \n"), 0);
-        assert_eq!(rt; bad_line(&rt, "stop"), 1);
-        assert_eq!(rt; bad_line(&rt, "keep\nlink 0 65536\nstop\n"), 2);
-        assert_eq!(rt; bad_line(&rt, "# one\n\nlink 0  1\n"), 3);
-        assert_eq!(rt; bad_line(&rt, "keep\nkeep\nlink 0 01\n"), 3);
-        assert_eq!(rt; bad_line(&rt, "post 0 1 cents 2147483648 tonnes 0\n"), 1);
-        assert_eq!(rt; bad_line(&rt, "keep\npost 0 1 cents -1\n"), 2);
-        assert_eq!(rt; bad_line(&rt, "quote -1 0"), 1);
+        assert_eq!(rt; bad_line(&rt, "keep\n\n# remark\n 7: withdraw \n"), None);
+        assert_eq!(rt; bad_line(&rt, "stop"), Some(1));
+        assert_eq!(rt; bad_line(&rt, "keep\nlink 0 65536\nstop\n"), Some(2));
+        assert_eq!(rt; bad_line(&rt, "# one\n\nlink 0  1\n"), Some(3));
+        assert_eq!(rt; bad_line(&rt, "keep\nkeep\nlink 0 01\n"), Some(3));
+        assert_eq!(rt;
+            bad_line(&rt, "post 0 1 cents 2147483648 tonnes 0\n"),
+            Some(1)
+        );
+        assert_eq!(rt; bad_line(&rt, "keep\npost 0 1 cents -1\n"), Some(2));
+        assert_eq!(rt; bad_line(&rt, "quote -1 0"), Some(1));
     }
 }

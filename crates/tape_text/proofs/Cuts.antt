@@ -1,14 +1,45 @@
 -- Cutting a text at a character that does not stand in its first part.
 -- Assumes nothing but an ASCII character.
-use Rattle.std.proofs.Common.{◌≡◌, ℕ, zero, suc, ◌^◌, ◌<◌, Bool, true, not, ◌&&◌, eqb, List, [], ◌∷◌, ◌++◌, length, get_or, ℤ, pos, negsuc, decimal, sym, refl, ap, ◌∙◌, inl, inr, arith}
+use Rattle.std.proofs.Common.{◌≡◌, ◌≢◌, ℕ, zero, suc, ◌+◌, ◌^◌, ◌<◌, ◌⊎◌, Bool, true, false, not, ◌&&◌, eqb, List, [], ◌∷◌, ◌++◌, length, get_or, take, drop, ℤ, pos, negsuc, decimal, Option, Some, None, Bor, sym, refl, ap, ◌∙◌, subst, inl, inr, arith}
+use Rattle.std.specs.Option.{MatchOption, unwrap_or}
 use lib.Signed.{mag}
 use Rattle.std.specs.Fmt.{signed_decimal}
-use Rattle.std.proofs.lemmas.List.{get_or_at, length-append}
+use Rattle.std.specs.Str.Pattern.{FindsChar, IsSplitAtFirstMatch}
+use Rattle.std.proofs.lemmas.List.{get_or_at, length-append, length-drop, length-take-le, nil_from_length}
+use Rattle.std.proofs.lemmas.Str.Pattern.{split_parts}
 use Rattle.std.proofs.lemmas.Fmt.{digits_decimal}
 use Rattle.std.proofs.lemmas.Str.Parse.{IsNumeralModel, numerals_by_value, tells_digits, not_in_digits}
 use Rattle.std.proofs.lemmas.Bool.{eqb-false, and_parts, not-true}
 use Rattle.std.specs.Str.Parse.{AllDigits, digits_value}
-use Rattle.tape_text.specs.Parses.{Lacks, CutIs}
+use Rattle.tape_text.specs.Parses.{Lacks, CutThere, NoCut, CutIs}
+
+-- what a split at the first such character gives, or the whole text where there is none
+pub cut_or : (c : ℕ) (text : List ℕ) (o : Option (Bor (List ℕ) × Bor (List ℕ))) (d r : Bor (List ℕ) × Bor (List ℕ)) → r ≡ unwrap_or o d → d.0.now ≡ text → d.1.now ≡ []
+    → MatchOption o ((i : ℕ) → i < length text → get_or text i 0 ≢ c) (λ x. (text ≡ x.0.now ++ (c ∷ x.1.now)) × ((i : ℕ) → i < length x.0.now → get_or x.0.now i 0 ≢ c))
+    → CutThere text c r.0.now r.1.now ⊎ NoCut text c r.0.now r.1.now
+cut_or c text None d r e whole rest h = inr (record { none = h; whole = ap (λ p. p.0.now) e ∙ whole; rest = ap (λ p. p.1.now) e ∙ rest })
+cut_or c text (Some x) d r e whole rest h = inl (subst (λ p. CutThere text c p.0.now p.1.now) (sym e) (record { first = h.1; whole = h.0 }))
+
+-- a line that the splitter cuts off: there was a line's end, or there was none and nothing is left
+pub cut_line : (w : List ℕ) (x : Bor (List ℕ)) (live : Bool) (rest : List ℕ) → IsSplitAtFirstMatch (FindsChar 10) w x.now live rest
+    → (CutThere w 10 x.now rest × (live ≡ true)) ⊎ (NoCut w 10 x.now rest × (live ≡ false))
+cut_line w x live rest h = ends_at h.1.0 h.1.1 h.1.2
+  where
+    ends_at : (o : Option (ℕ × ℕ)) → FindsChar 10 w o → MatchOption o ((x.now ≡ w) × (live ≡ false)) (λ q. 0 < q.1 → (x.now ≡ take q.0 w) × (live ≡ true) × (rest ≡ drop q.1 w)) → (CutThere w 10 x.now rest × (live ≡ true)) ⊎ (NoCut w 10 x.now rest × (live ≡ false))
+    ends_at None f p =
+        let size = h.0 in
+        let long = ap length p.0 in
+        inr (record { none = split_parts 10 w None f (omega arith); whole = p.0; rest = nil_from_length rest (omega arith) }, p.1)
+    ends_at (Some q) f p =
+        let there = f.1 in
+        let next = there.ends in
+        let gone = ap length there.split in
+        let (is, more, behind) = p (omega arith) in
+        let inside : q.0 < length w = omega (arith, length-drop q.0 w, length-drop q.1 w) in
+        let front : length x.now ≡ q.0 = ap length is ∙ length-take-le q.0 w (omega arith) in
+        let back : length rest + q.1 ≡ length w = let l = ap length behind ∙ length-drop q.1 w in omega arith in
+        let parts = split_parts 10 w (Some (x, record x { now = rest })) (q.0, q.1, f, is, behind, omega arith, front, back) (omega arith) in
+        inl (record { first = parts.1; whole = parts.0 }, more)
 
 -- where a text begins with a part that lacks the character, the cut comes right behind that part
 first_part : (c : ℕ) (p q xs ys : List ℕ) → p ++ (c ∷ q) ≡ xs ++ (c ∷ ys) → Lacks p c → Lacks xs c → (p ≡ xs) × (q ≡ ys)

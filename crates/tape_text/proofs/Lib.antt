@@ -1,5 +1,5 @@
 mod Cuts
 mod Fields
-mod Lines
 mod Names
+mod Shown
 mod Spelling

@@ -1,14 +1,16 @@
 -- A text read line by line: what has been read so far, followed by what the rest spells, is what the text spells.
 -- Assumes what one line is.
-use Rattle.std.proofs.Common.{◌≡◌, ℕ, ◌+◌, ◌<◌, ◌≤◌, Bool, false, eqb, List, [], ◌∷◌, ◌++◌, length, get_or, Some, None, Decides, Option, sym, ap, ◌∙◌, subst, inl, inr, arith}
+use Rattle.std.proofs.Common.{◌≡◌, ℕ, ◌+◌, ◌<◌, ◌≤◌, Bool, true, false, eqb, List, [], ◌∷◌, ◌++◌, length, get_or, Some, None, Decides, Option, MatchOption, Bor, sym, refl, ap, ◌∙◌, subst, inl, inr, arith}
+use Rattle.std.specs.Str.Pattern.{FindsChar, IsSplitAtFirstMatch}
 use Rattle.std.proofs.lemmas.List.{append_assoc, append-nil, length-append}
 use Rattle.std.proofs.lemmas.Bool.{eqb-false, both_ways}
 use Rattle.tape.specs.declared.contents.Content.{Content}
 use Rattle.tape.specs.Laws.{Fits}
 use Rattle.tape_text.specs.declared.making.Line.{Line}
 use Rattle.tape_text.specs.declared.making.Line.TheVariants.{Remark, Record, Bad}
-use Rattle.tape_text.specs.Texts.{text_of}
+use Rattle.tape.specs.Texts.{text_of}
 use Rattle.tape_text.specs.Parses.{ParsedAs}
+use Rattle.tape_text.proofs.Cuts.{cut_line}
 use Rattle.tape_text.specs.Making.{Trimmed, BehindPlace, IsRemark, OnLine, LineIs, FirstLine, Spells, nothing, remark, said, IsGood, BadAt, first, later}
 
 pub record SoFar (text rest : List ℕ) (number : ℕ) (done : List Content) : Type 0 where
@@ -17,15 +19,33 @@ pub record SoFar (text rest : List ℕ) (number : ℕ) (done : List Content) : T
   pub few : number + length rest ≤ length text + 1
   pub counted : 1 ≤ number
 
-pub none_read : (text : List ℕ) → SoFar text text 1 []
-none_read text = record { spelled = λ cs s. s; bad = λ n b. (n, omega arith, b); few = omega arith; counted = omega arith }
-
 -- behind a line that was cut off, less is left
 pub less_left : (text line rest : List ℕ) → FirstLine text line rest → length rest < length text
 less_left text line rest f = elim (f.cut (omega arith)) [
   | inl t ↦ let l = ap length t.whole ∙ length-append line (10 ∷ rest) in omega arith
   | inr n ↦ let l = ap length n.rest in let s = f.some in omega arith
 ]
+
+-- what the splitter cuts off a text that is left is its first line, and nothing is left behind a line with no end
+pub line_off : (w : List ℕ) (x : Bor (List ℕ)) (live : Bool) (rest : List ℕ) → IsSplitAtFirstMatch (FindsChar 10) w x.now live rest → (length x.now ≡ 0 → live ≡ true) → FirstLine w x.now rest × (live ≡ false → length rest ≡ 0)
+line_off w x live rest h blank = elim (cut_line w x live rest h) [
+  | inl c ↦
+      let long = ap length c.0.whole ∙ length-append x.now (10 ∷ rest) in
+      (record { some = omega arith; cut = λ _. inl c.0 }, λ d. let both : true ≡ false = sym c.1 ∙ d in absurd (cc))
+  | inr n ↦
+      let long = ap length n.0.whole in
+      let some : length w ≡ 0 → ⊥ = λ none. let both : true ≡ false = sym (blank (omega arith)) ∙ n.1 in cc in
+      (record { some = omega arith; cut = λ _. inr n.0 }, λ _. ap length n.0.rest)
+]
+
+-- where no line is left, no text is left
+pub none_left : (w : List ℕ) (live : Bool) → (live ≡ false → length w ≡ 0) → (live ≡ true → (o : Option (ℕ × ℕ)) × FindsChar 10 w o × MatchOption o (length w ≡ 0) (λ q. q.1 ≡ 0)) → length w ≡ 0
+none_left w false gone end = gone refl
+none_left w true gone end = at_end (end refl).0 (end refl).1 (end refl).2
+  where
+    at_end : (o : Option (ℕ × ℕ)) → FindsChar 10 w o → MatchOption o (length w ≡ 0) (λ q. q.1 ≡ 0) → length w ≡ 0
+    at_end None f p = p
+    at_end (Some q) f p = let next = f.1.ends in absurd (omega arith)
 
 good_line : (text rest line next : List ℕ) (number : ℕ) (done : List Content) → SoFar text rest number done → FirstLine rest line next → IsGood line → (n : ℕ) → BadAt next n → (m : ℕ) × (m + 1 ≡ number + 1 + n) × BadAt text m
 good_line text rest line next number done s f g n b =

@@ -1,4 +1,3 @@
-pub mod Texts
 pub mod Parses
 pub mod Listings
 pub mod Making

@@ -4,28 +4,19 @@ use Rattle.std.specs.Prelude.{◌≡◌, ℕ, List, ◌++◌, map, length, Some,
 use Rattle.std.specs.List.{flat_map}
 use Rattle.tape.specs.declared.contents.Placed.{Placed}
 use Rattle.tape.specs.declared.faults.TapeFault.{TapeFault}
-use Rattle.tape.specs.declared.faults.Reason.{Reason}
-use Rattle.tape.specs.declared.faults.Reason.TheVariants.{UnknownKind, CutShort, OutOfTurn, PlanTooLarge, TapeTooLong}
-use Rattle.tape.specs.Faults.{reason_number}
+use Rattle.tape.specs.Faults.{fault_text}
 use Rattle.tape.specs.Tape.{Ending, regular, faulty, Means}
 use Rattle.tape.specs.Laws.{part_of}
-use Rattle.tape_text.specs.Texts.{line_of}
+use Rattle.tape.specs.Texts.{line_of}
 
 abbrev pub ending_of : Option TapeFault → Ending
 ending_of None = regular
 ending_of (Some f) = faulty f
 
-abbrev pub reason_text : Reason → List ℕ
-reason_text UnknownKind = codes "unknown kind of record"
-reason_text CutShort = codes "cut short"
-reason_text OutOfTurn = codes "record out of turn"
-reason_text PlanTooLarge = codes "plan too large"
-reason_text TapeTooLong = codes "tape too long"
-
 -- the last line: a remark at a regular end, else the fault with its place
 abbrev pub end_text : Option TapeFault → ℕ → List ℕ
 end_text None n = codes "# end at " ++ decimal n
-end_text (Some f) n = codes "fault " ++ (decimal (reason_number f.reason) ++ (codes " at " ++ (decimal f.place ++ (codes ": " ++ reason_text f.reason))))
+end_text (Some f) n = fault_text f
 
 abbrev pub lines_of : List Placed → List ℕ
 lines_of xs = flat_map (λ x. line_of x ++ codes "\n") xs

@@ -1,6 +1,6 @@
 -- A tape from its text: what a line is, the contents that a text spells, and the first line that is bad.
 -- Assumes nothing of the text.
-use Rattle.std.specs.Prelude.{◌≡◌, ℕ, ◌+◌, ◌<◌, ◌⊎◌, List, [], ◌∷◌, length, take, drop, Ok, Err, vec_items, Result, Vec, ◌≢◌, slice_index}
+use Rattle.std.specs.Prelude.{◌≡◌, ℕ, ◌+◌, ◌<◌, ◌⊎◌, List, [], ◌∷◌, ◌++◌, length, take, drop, codes, decimal, Ok, Err, vec_items, Result, Vec, ◌≢◌, slice_index}
 use Rattle.std.specs.Char.{is_not_whitespace}
 use Rattle.std.specs.Str.{NoCharPasses, EmptyOrStartsWithPassing, EmptyOrEndsWithPassing}
 use Rattle.std.specs.declared.alloc.Global.{Global}
@@ -10,7 +10,7 @@ use Rattle.tape_text.specs.declared.making.Line.{Line}
 use Rattle.tape_text.specs.declared.making.Line.TheVariants.{Remark, Record, Bad}
 use Rattle.tape_text.specs.declared.making.MakeFault.{MakeFault}
 use Rattle.tape_text.specs.declared.making.MakeFault.TheVariants.{BadLine, NoMemory}
-use Rattle.tape_text.specs.Texts.{text_of}
+use Rattle.tape.specs.Texts.{text_of}
 use Rattle.tape_text.specs.Parses.{Lacks, CutThere, CutIs}
 
 -- t is the text without the white space around it
@@ -59,6 +59,11 @@ IsGood line = LineIs line Remark ⊎ ((c : Content) × LineIs line (Record c))
 pub data BadAt : List ℕ → ℕ → Type 0 where
   first : (text line rest : List ℕ) → FirstLine text line rest → LineIs line Bad → BadAt text 1
   later : (text line rest : List ℕ) (n : ℕ) → FirstLine text line rest → IsGood line → BadAt rest n → BadAt text (n + 1)
+
+-- a refusal in words
+abbrev pub make_fault_text : MakeFault → List ℕ
+make_fault_text (BadLine n) = codes "line " ++ (decimal n ++ codes ": not a record")
+make_fault_text NoMemory = codes "no memory"
 
 abbrev pub WhyNot : List ℕ → MakeFault → Type 0
 WhyNot text (BadLine n) = BadAt text n

@@ -1,13 +1,12 @@
 -- A record back from its text: the text is cut at blanks, and the words are read as numbers.
 -- Assumes that each field fits its width.
 use Rattle.std.specs.Prelude.{◌≡◌, ℕ, ◌<◌, ◌⊎◌, List, [], ◌∷◌, ◌++◌, length, Some, None, Option, ◌≢◌, slice_index}
-use Rattle.tape.specs.declared.kinds.Kind.{Kind}
 use Rattle.tape.specs.declared.contents.Ends.{Ends}
 use Rattle.tape.specs.declared.contents.LaneRate.{LaneRate}
 use Rattle.tape.specs.declared.contents.HeadFields.{HeadFields}
 use Rattle.tape.specs.declared.contents.Content.{Content}
 use Rattle.tape.specs.Laws.{EndsFit, LaneFits, HeadFits, Fits}
-use Rattle.tape_text.specs.Texts.{ends_words, lane_words, head_words, kind_name, text_of}
+use Rattle.tape.specs.Texts.{ends_words, lane_words, head_words, text_of}
 
 -- the character does not stand in the text
 abbrev pub Lacks : List ℕ → ℕ → Type 0
@@ -29,21 +28,17 @@ abbrev pub CutIs : List ℕ → ℕ → List ℕ → List ℕ → Type 0
 CutIs text c before behind = c < 128 → CutThere text c before behind ⊎ NoCut text c before behind
 
 -- fields as they were written come back
-abbrev pub EndsBack : List ℕ → Ends → Type 0
-EndsBack text r = (e : Ends) → EndsFit e → text ≡ ends_words e → r ≡ e
+abbrev pub EndsBack : List ℕ → Option Ends → Type 0
+EndsBack text r = (e : Ends) → EndsFit e → text ≡ ends_words e → r ≡ Some e
 
-abbrev pub LaneBack : List ℕ → LaneRate → Type 0
-LaneBack text r = (l : LaneRate) → LaneFits l → text ≡ lane_words l → r ≡ l
+abbrev pub LaneBack : List ℕ → Option LaneRate → Type 0
+LaneBack text r = (l : LaneRate) → LaneFits l → text ≡ lane_words l → r ≡ Some l
 
-abbrev pub HeadBack : List ℕ → HeadFields → Type 0
-HeadBack text r = (h : HeadFields) → HeadFits h → text ≡ head_words h → r ≡ h
+abbrev pub HeadBack : List ℕ → Option HeadFields → Type 0
+HeadBack text r = (h : HeadFields) → HeadFits h → text ≡ head_words h → r ≡ Some h
 
--- the kind of a name
-abbrev pub KindBack : List ℕ → Kind → Type 0
-KindBack name r = (k : Kind) → name ≡ kind_name k → r ≡ k
-
-abbrev pub ContentBack : List ℕ → Content → Type 0
-ContentBack text r = (c : Content) → Fits c → text ≡ text_of c → r ≡ c
+abbrev pub ContentBack : List ℕ → Option Content → Type 0
+ContentBack text r = (c : Content) → Fits c → text ≡ text_of c → r ≡ Some c
 
 -- the content that has this text, or none where no content has it
 abbrev pub ParsedAs : List ℕ → Option Content → Type 0

@@ -1,37 +1,36 @@
 // A tape as a listing: a line for each record, then how the tape ends.
-ghost use Rattle.std.specs.Prelude.{◌≡◌, map, IfOk, string_bytes};
+ghost use Rattle.std.specs.Prelude.{◌≡◌, map, IfOk, MatchResult, Err, string_bytes};
 ghost use Rattle.tape.specs.Tape.{Means};
+ghost use Rattle.tape.specs.Views.{PlacedIs};
 ghost use Rattle.tape.specs.Laws.{part_of};
-ghost use Rattle.tape_text.specs.Listings.{ending_of, reason_text, end_text, lines_of, Lists};
+ghost use Rattle.tape_text.specs.Listings.{ending_of, end_text, lines_of, Lists};
 
-use crate::texts::line_of;
 use std::alloc::{AllocError, Global};
-use tape::{Placed, Reader, Reason, TapeFault};
+use tape::{Placed, Reader, Record, TapeFault};
 
-// The contents of a tape's records with their places, and its fault if it has one.
-#[derive(Drop)]
+// The contents of a tape's records with their places, and its fault if it has one. No `Result`:
+// the records before a fault count too.
+#[derive(Debug, Drop)]
 pub struct Listing {
     pub records: Vec<Placed>,
     pub fault: Option<TapeFault>,
+}
+
+// The content of what the reader shows, beside its place.
+fn placed(item: Result<Record<'_>, TapeFault>) -> Result<Placed, TapeFault>
+    ensures { MatchResult item.entry (λ r. PlacedIs r result) (λ f. result ≡ Err f) }
+{
+    item?.placed()
 }
 
 // Reads a tape to its end or its fault.
 pub fn read_all(heap: Global, tape: &[u8]) -> Result<Listing, AllocError>
     ensures { IfOk result (λ l. Means tape.now (map part_of l.records.items) (ending_of l.fault)) }
 {
-    let mut reader = Reader::new(tape);
     let mut records = Vec::new(heap);
-    loop {
-        match reader.next_content() {
-            Ok(next) => {
-                let Some(x) = next else {
-                    return Ok(Listing {
-                        records,
-                        fault: None,
-                    });
-                };
-                records.push(x)?;
-            }
+    for record in Reader::new(tape) {
+        match placed(record) {
+            Ok(x) => records.push(x)?,
             Err(fault) => {
                 return Ok(Listing {
                     records,
@@ -40,18 +39,10 @@ pub fn read_all(heap: Global, tape: &[u8]) -> Result<Listing, AllocError>
             }
         }
     }
-}
-
-fn reason_text(reason: Reason) -> &'static str
-    ensures { result.now ≡ reason_text reason }
-{
-    match reason {
-        Reason::UnknownKind => "unknown kind of record",
-        Reason::CutShort => "cut short",
-        Reason::OutOfTurn => "record out of turn",
-        Reason::PlanTooLarge => "plan too large",
-        Reason::TapeTooLong => "tape too long",
-    }
+    Ok(Listing {
+        records,
+        fault: None,
+    })
 }
 
 // How a tape of so many bytes ends.
@@ -60,12 +51,7 @@ pub fn end_of(heap: Global, fault: Option<TapeFault>, length: usize) -> Result<S
 {
     match fault {
         None => format!(in heap; "# end at {length}"),
-        Some(f) => {
-            let number = f.reason.code();
-            let place = f.place;
-            let reason = reason_text(f.reason);
-            format!(in heap; "fault {number} at {place}: {reason}")
-        }
+        Some(f) => f.to_string(heap),
     }
 }
 
@@ -75,9 +61,7 @@ fn lines_of(heap: Global, records: &[Placed]) -> Result<String, AllocError>
 {
     let mut out = String::new(heap);
     for x in records {
-        let line = line_of(heap, *x)?;
-        out.push_str(line.as_str())?;
-        out.push_str("\n")?;
+        writeln!(out, "{x}")?;
     }
     Ok(out)
 }

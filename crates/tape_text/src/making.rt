@@ -1,20 +1,36 @@
 // A tape from its text.
-ghost use Rattle.std.specs.Prelude.{◌≡◌, ◌++◌, IfOk, OnOk};
+ghost use Rattle.std.specs.Prelude.{◌≡◌, ◌++◌, Some, IfOk, OnOk};
 ghost use Rattle.tape.specs.Contents.{record_bytes};
 ghost use Rattle.tape.specs.Laws.{tape_bytes};
 ghost use Rattle.tape_text.specs.declared.making.MakeFault.TheVariants.{NoMemory};
-ghost use Rattle.tape_text.specs.Making.{BehindPlace, LineIs, Reads, Makes};
+ghost use Rattle.tape_text.specs.Making.{make_fault_text, BehindPlace, LineIs, Reads, Makes};
 
 use crate::parsing::{cut, parse};
 use std::alloc::{AllocError, AllocFailed, Global};
+use std::error::Error;
+use std::fmt;
 use tape::Content;
 
-// Why no tape is made: a line, counted from 1, that is no record, or no memory.
-#[derive(Clone, Copy)]
+// Why no tape is made: a line, counted from 1, that is no record, or no memory. The two `From` are
+// written by hand, since the clauses name the error that a `?` makes.
+#[derive(Clone, Copy, Debug, PartialEq, Eq)]
 pub enum MakeFault {
     BadLine(usize),
     NoMemory,
 }
+
+impl fmt::Display for MakeFault {
+    ghost output = { λ e. Some (make_fault_text e) };
+
+    fn fmt<W: fmt::Write>(&self, f: &mut fmt::Formatter<W>) -> fmt::Result {
+        match self {
+            MakeFault::BadLine(n) => write!(f, "line {n}: not a record"),
+            MakeFault::NoMemory => f.write_str("no memory"),
+        }
+    }
+}
+
+impl Error for MakeFault {}
 
 impl From<AllocError> for MakeFault {
     ghost from_gives = { λ _ r. r ≡ NoMemory };
@@ -32,8 +48,8 @@ impl<T: Drop> From<AllocFailed<T>> for MakeFault {
     }
 }
 
-// What a line of text is.
-#[derive(Clone, Copy)]
+// What a line of text is. Three names read plainer than a `Result` of an `Option`.
+#[derive(Clone, Copy, Debug, PartialEq, Eq)]
 pub enum Line {
     Remark,
     Record(Content),
@@ -74,17 +90,12 @@ pub fn read_text(heap: Global, text: &str) -> Result<Vec<Content>, MakeFault>
     ensures { Reads text.now result }
 {
     let mut contents = Vec::new(heap);
-    let mut rest = text;
-    let mut number = 1;
-    while !rest.is_empty() {
-        let (line, behind) = cut(rest, '\n');
+    for (i, line) in text.split_terminator('\n').enumerate() {
         match read_line(heap, line)? {
             Line::Remark => {}
             Line::Record(content) => contents.push(content)?,
-            Line::Bad => return Err(MakeFault::BadLine(number)),
+            Line::Bad => return Err(MakeFault::BadLine(i + 1)),
         }
-        rest = behind;
-        number += 1;
     }
     Ok(contents)
 }
@@ -97,9 +108,8 @@ fn append(tape: &mut Vec<u8>, content: Content) -> Result<(), AllocError>
     ensures { OnOk result (tape.new.items ≡ tape.old.items ++ record_bytes content) }
 {
     let mut area = [0u8; LONGEST];
-    if let Ok(n) = content.write(&mut area) {
-        tape.extend_from_slice(&area[0..n])?;
-    }
+    let n = content.write(&mut area).unwrap();
+    tape.extend_from_slice(&area[0..n])?;
     Ok(())
 }
 

@@ -5,29 +5,26 @@ ghost use Rattle.triangulation.specs.Filling.{FillTriangulates, LinksAreSides, O
 ghost use Rattle.triangulation.specs.Geometry.{LengthsFromPlaces, OneSubtreeAtAPlace, PreorderIsSorted, ReadByPlace, SidesByPlace, SidesPartTheRing};
 
 // The fill exists, is one, triangulates the ring, and has every link among its sides.
-pub fn fill_is_decided_by_links() -> u8
+pub fn fill_is_decided_by_links()
     ensures exists { SomeFill }
     ensures unique { OneFill }
     ensures triangulates { FillTriangulates }
     ensures draws_links { LinksAreSides }
 {
-    0
 }
 
 // Which subtree stands where in the preorder.
-pub fn preorder_is_read_by_place() -> u8
+pub fn preorder_is_read_by_place()
     ensures one { OneSubtreeAtAPlace }
     ensures base { SidesByPlace }
     ensures read { ReadByPlace }
     ensures lengths { LengthsFromPlaces }
     ensures sorted { PreorderIsSorted }
 {
-    0
 }
 
 // Every triangle lies on one side of a given side.
-pub fn side_parts_the_ring() -> u8
+pub fn side_parts_the_ring()
     ensures { SidesPartTheRing }
 {
-    0
 }

@@ -1,9 +1,8 @@
-use Rattle.std.proofs.Common.{◌≡◌, take}
-use Rattle.pieces.specs.Sides.{lengths}
+use Rattle.std.proofs.Common.{◌≡◌, ℕ, Bool, take}
+use Rattle.cutting.specs.Calls.{Computes}
 use Rattle.pieces.specs.Cuts.{chosen}
-use Rattle.records.specs.Few.{listed}
-use Rattle.cutting.specs.Places.{passes}
 use Rattle.cutting.proofs.parts.chosen.Given as goal
 
-abbrev pub invariant-loop-k : goal.invariant-loop-k
-invariant-loop-k l = l.to ≡ chosen (passes (lengths l.sides) l.place l.v) l.initial.to (take l.k (listed l.holes))
+abbrev pub invariant-loop-hole : goal.invariant-loop-hole
+invariant-loop-hole g l =
+    (test : ℕ → Bool) → Computes (goal.F-post g l.stands) test → l.to ≡ chosen test l.initial.to (take l.hole-index l.hole-items)

@@ -1,11 +1,12 @@
-use Rattle.std.proofs.Common.{◌≡◌, ◌-◌}
+use Rattle.std.proofs.Common.{◌≡◌, ℕ, ◌-◌, ◌<◌}
+use Rattle.cutting.specs.Calls.{Computes}
+use Rattle.pieces.specs.Cuts.{descend}
 use Rattle.pieces.specs.Sides.{lengths}
-use Rattle.pieces.specs.Cuts.{descend, weight}
-use Rattle.records.specs.Few.{listed}
 use Rattle.cutting.proofs.seam.descend.Given as goal
 
 -- what is left of the way down leads to the same side
-abbrev pub invariant-loop-i : goal.invariant-loop-i
-invariant-loop-i l =
-    descend (lengths l.sides) (weight (lengths l.sides) l.by_holes (listed l.holes)) l.most (l.steps - l.i) l.v
-    ≡ descend (lengths l.sides) (weight (lengths l.sides) l.by_holes (listed l.holes)) l.most l.steps l.from
+abbrev pub invariant-loop : goal.invariant-loop
+invariant-loop g l =
+    (l.v < 65536)
+    × ((w : ℕ → ℕ) → Computes (goal.F-post g l.weight) w
+    → descend (lengths l.sides) w l.most (l.steps - l.counter) l.v ≡ descend (lengths l.sides) w l.most l.steps l.from)

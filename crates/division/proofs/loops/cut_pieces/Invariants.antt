@@ -8,4 +8,4 @@ use Rattle.division.proofs.loops.cut_pieces.Given as goal
 abbrev pub invariant-loop-p : goal.invariant-loop-p
 invariant-loop-p l =
     (drop l.count l.pieces ≡ drop l.count l.initial.pieces)
-    × ((n : ℕ) → Fitting n (ends_of l.sides) l.count l.initial.pieces l.initial.waiting.items.now → (64 ≤ length l.waiting.items.now) × UnderWay n (ends_of l.sides) l.p l.pieces l.waiting.items.now l.waiting.len)
+    × ((n : ℕ) → Fitting n (ends_of l.sides) l.count l.initial.waiting.items.now → (64 ≤ length l.waiting.items.now) × UnderWay n (ends_of l.sides) l.p l.pieces l.waiting.items.now l.waiting.len)

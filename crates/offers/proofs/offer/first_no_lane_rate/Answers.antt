@@ -1,21 +1,13 @@
-use Rattle.std.proofs.Common.{arith}
-use Rattle.std.proofs.lemmas.List.{length-map}
-use Rattle.offers.proofs.Pricing.{lane_rates_more, first_no_lane}
+use Rattle.std.proofs.Common.{rules}
+use Rattle.std.proofs.lemmas.Iterator.{IsFirst-from_position, YieldsList-from_slice}
+use borrow.Author.Tests.{tests}
+use Rattle.offers.proofs.Pricing.{first_found, IsLane, IsNoLane}
 use Rattle.offers.proofs.offer.first_no_lane_rate.Goals as goal
 
-pub loop-i-init : goal.loop-i-init
-loop-i-init g c k l = absurd (omega arith)
-
-pub loop-i-preserved : goal.loop-i-preserved
-loop-i-preserved g c =
-    lane_rates_more g.R.Rate.kind g.met.R.Rate.laws g.R.Rate.means c.args.lanes.now c.loop-i.i
-    c.index-lanes-i.result c.is_lane_rate.result c.loop-i-test.true c.index-lanes-i.is c.is_lane_rate.ensures c.if-not-is_lane_rate.false c.loop-i.invariant
-
-pub returns-then-not-is_lane_rate : goal.returns-then-not-is_lane_rate
-returns-then-not-is_lane_rate g c =
-    first_no_lane g.R.Rate.kind g.met.R.Rate.laws g.R.Rate.means c.args.lanes.now c.loop-i.i
-    c.index-lanes-i.result c.is_lane_rate.result c.loop-i-test.true c.index-lanes-i.is c.is_lane_rate.ensures c.if-not-is_lane_rate.true c.loop-i.invariant
-
 pub returns : goal.returns
-returns g c k l =
-    c.loop-i.invariant k (omega (arith, length-map c.args.lanes.now g.R.Rate.means))
+returns g c =
+    let K = g.R.Rate.kind in
+    let X = g.met.R.Rate.laws in
+    let lanes = c.args.lanes.now in
+    first_found K X g.R.Rate.means lanes c.position.result
+    (IsFirst-from_position _ _ _ (IsNoLane K X g.R.Rate.means) (IsLane K X g.R.Rate.means) c.position.ensures.ran (YieldsList-from_slice lanes cc) (λ y q k. search (rules, tests)) (λ y q k. search (rules, tests)))

@@ -1,10 +1,10 @@
-use Rattle.plan_text.specs.Pictures.{head_text}
-use Rattle.plan_text.proofs.Drawing.{at_first, then}
+use Rattle.std.proofs.Common.{append_assoc}
+use Rattle.plan_text.specs.Pictures.{sized_head_text}
+use Rattle.plan_text.proofs.Texts.{GrownBy-same, on_ok}
 use Rattle.plan_text.proofs.picture.write_head.Goals as goal
 
 pub returns : goal.returns
-unfolding head_text
+unfolding sized_head_text
 returns c =
-    let one = then (at_first c.args.page.now) c.say.new.self _ c.say.ensures in
-    let two = then one c.say-2.new.self _ c.say-2.ensures in
-    two.by
+    on_ok c.writeln.result c.writeln.ensures.bytes (λ grown.
+    GrownBy-same c.args.text.now c.writeln.new.self _ (sized_head_text c.args.size) grown (simp append_assoc))

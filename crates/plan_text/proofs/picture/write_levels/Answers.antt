@@ -1,10 +1,12 @@
 use Rattle.std.proofs.Common.{◌+◌}
 use Rattle.plan_text.specs.Pictures.{legend_text, legends_text}
-use Rattle.plan_text.proofs.Drawing.{Grown, one_more, then, whole_as}
+use Rattle.plan_text.proofs.Drawing.{one_more}
+use Rattle.plan_text.proofs.Texts.{GrownBy-append, GrownBy-same}
 use Rattle.plan_text.proofs.picture.write_levels.Goals as goal
 
 pub loop-level-preserved : goal.loop-level-preserved
 loop-level-preserved c =
     let level = c.loop-level.level in
-    let before : Grown c.args.page.now c.loop-level.page (legends_text level) = record { by = c.loop-level.invariant } in
-    whole_as (then before c.write_level.new.page _ c.write_level.ensures) (legends_text (level + 1)) (one_more legend_text level)
+    let before = c.args.text.now in
+    let after = c.write_level.new.text in
+    GrownBy-same before after _ (legends_text (level + 1)) (GrownBy-append before c.loop-level.text after _ _ c.loop-level.invariant c.in_ok-write_level.ensures) (one_more legend_text level)

@@ -1,10 +1,22 @@
-use Rattle.std.proofs.Common.{inl, MatchResult, subst}
-use Rattle.plan_text.specs.Laid.{LaidOut, Refused}
+use Rattle.std.proofs.Common.{◌≡◌, inl, inr, refl, subst}
+use Rattle.plan_text.specs.Laid.{NotLaid}
+use Rattle.plan_text.specs.declared.laid.LayError.TheVariants.{Refused}
+use Rattle.plan_text.specs.Trees.{fault_text}
+use Rattle.plan_text.proofs.Texts.{GrownBy-same, on_ok}
 use Rattle.plan_text.proofs.telling.tell.Goals as goal
 
 pub returns-in-Ok : goal.returns-in-Ok
 returns-in-Ok c =
-    let told = c.write_laid.ensures in
-    let accepted : LaidOut c.args.n c.args.links.now c.in-Ok.laid =
-    subst (λ r. MatchResult r (LaidOut c.args.n c.args.links.now) (Refused c.args.n c.args.links.now)) c.in-Ok.is c.in_ok-laid.ensures in
-    (told.0, (inl (c.in-Ok.laid, (accepted, told.1.0)), told.1.1))
+    on_ok c.write_laid.result c.write_laid.ensures (λ told. (told.0, (inl (c.in-Ok.laid, (c.in-Ok.ensures.laid, told.1.0)), told.1.1)))
+
+pub returns-in-Err-Refused : goal.returns-in-Err-Refused
+returns-in-Err-Refused c =
+    let fault = c.in-Err-Refused.fault in
+    let is : c.in-Err-Refused.field-0 ≡ Refused fault = cc in
+    on_ok c.write_fault.result c.write_fault.ensures (λ grown. (
+      fault_text c.args.plan.now.links.items fault,
+      (
+        inr (fault, (subst (NotLaid c.args.plan.now.terminals c.args.plan.now.links.items) is c.in-Err-Refused.ensures.refused, refl)),
+        GrownBy-same c.args.text.now c.write_fault.new.text _ (fault_text c.args.plan.now.links.items fault) grown (cc (c.in-Err-Refused.fault-is, c.deref.ensures.value)),
+      ),
+    ))

@@ -1,8 +1,33 @@
-use Rattle.std.proofs.Common.{map}
-use Rattle.quoting.specs.Places.{shown}
-use Rattle.quoting.proofs.Places.{eight_long}
-use Rattle.quoting.proofs.Plans.{parted_there, row_parted, column_parted, best_parted}
+use Rattle.std.proofs.Common.{◌≡◌, ◌+◌, ◌*◌, ◌<◌, IsSome, sym, subst, ap}
+use Rattle.std.proofs.lemmas.Bool.{false≢true}
+use Rattle.climbing.specs.Steps.{across_of, SeamStands}
+use Rattle.quoting.specs.Areas.{ends, TouchesPiece}
+use Rattle.quoting.specs.declared.steps.Step.{Step}
+use Rattle.quoting.proofs.Plans.{parted_there, step_there, known_parted}
 use Rattle.quoting.proofs.passes.parted_rate.Goals as goal
+
+pub returns-in_default : goal.returns-in_default
+returns-in_default g c n m h w apart =
+    let K = g.R.Rate.kind in
+    let X = g.met.R.Rate.laws in
+    let f = g.R.Rate.means in
+    let a = c.args.areas in
+    let own = c.child_towards-own.result in
+    let q = parted_there K X f a n m h c.args.stop c.args.p c.args.from c.args.to own c.piece.result w apart c.piece.ensures c.child_towards-own.ensures in
+    absurd (false≢true (subst IsSome c.in_default.is (c.step_from.ensures.there (step_there K X f a n m h own q.own_not_first q.own_in_range))))
+
+pub returns-in_default-step_from : goal.returns-in_default-step_from
+returns-in_default-step_from g c n m h w apart =
+    let K = g.R.Rate.kind in
+    let X = g.met.R.Rate.laws in
+    let f = g.R.Rate.means in
+    let a = c.args.areas in
+    let ps = a.records.pieces.now in
+    let own = c.child_towards-own.result in
+    let q = parted_there K X f a n m h c.args.stop c.args.p c.args.from c.args.to own c.piece.result w apart c.piece.ensures c.child_towards-own.ensures in
+    let is_across : c.in-Some.near.across.piece ≡ across_of ps own = ap (λ (x : Step). x.across.piece) c.in-Some.ensures.is in
+    absurd (false≢true (subst IsSome c.in_default-step_from.is (c.step_from-2.ensures.there
+    (subst (SeamStands (ends a) ps) (sym is_across) (step_there K X f a n m h (across_of ps own) q.across_not_first q.across_in_range)))))
 
 pub returns : goal.returns
 returns g c n m h w apart =
@@ -10,22 +35,15 @@ returns g c n m h w apart =
     let X = g.met.R.Rate.laws in
     let f = g.R.Rate.means in
     let a = c.args.areas in
-    let p = c.args.p in
+    let ps = a.records.pieces.now in
     let u = c.args.from in
     let v = c.args.to in
     let own = c.child_towards-own.result in
-    let near = c.step_from-near.result in
-    let across = near.across.piece in
-    let row = shown f c.line_at-row.result in
-    let column = shown f c.line_at-column.result in
-    let q = parted_there K X n m a.records.sides.now a.records.pieces.now (map f a.lanes.now) (map f a.sheets.now) h c.args.stop p u v own c.piece_at.result near w apart
-    c.piece_at.ensures c.child_towards-own.ensures c.step_from-near.ensures in
-    let kr = c.line_at-row.ensures n m h q.0.own_in_range q.0.own_touches in
-    let kc = c.line_at-column.ensures n m h q.0.across_in_range q.0.across_touches in
+    let q = parted_there K X f a n m h c.args.stop c.args.p u v own c.piece.result w apart c.piece.ensures c.child_towards-own.ensures in
+    let is_across : c.in-Some.near.across.piece ≡ across_of ps own = ap (λ (x : Step). x.across.piece) c.in-Some.ensures.is in
     c.pass_to.ensures n m u v h w.reaches_first w.reaches_second
-    (row_parted K X n m a.records.sides.now a.records.pieces.now (map f a.lanes.now) (map f a.sheets.now) h p u v own across q.0 q.1
-    row (shown f c.climb.result) near kr c.step_from-near.ensures (eight_long f c.climb.result) c.climb.ensures)
-    (column_parted K X n m a.records.sides.now a.records.pieces.now (map f a.lanes.now) (map f a.sheets.now) h p u v own across q.0 q.1
-    column (shown f c.climb-2.result) c.step_from-far.result kc c.step_from-far.ensures (eight_long f c.climb-2.result) c.climb-2.ensures)
-    (best_parted K X n m a.records.sides.now a.records.pieces.now (map f a.lanes.now) (map f a.sheets.now) h p u v own across q.0 q.1
-    row column near (f c.by_seam.result) kr kc c.step_from-near.ensures c.by_seam.ensures)
+    (known_parted K X f a n m h c.args.p u v own c.in-Some.near c.in-Some-step_from.far
+    c.line_at-row.result c.line_at-column.result c.climbed.result c.climbed-2.result c.by_seam.result q c.in-Some.ensures.is c.in-Some-step_from.ensures.is
+    (c.line_at-row.ensures n m h q.own_in_range q.own_touches)
+    (c.line_at-column.ensures n m h (subst (λ x. x + 5 < 2 * n) (sym is_across) q.across_in_range) (subst (λ x. TouchesPiece a n x v) (sym is_across) q.across_touches))
+    c.climbed.ensures c.climbed-2.ensures c.by_seam.ensures)

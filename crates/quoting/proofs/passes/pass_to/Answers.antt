@@ -1,50 +1,39 @@
-use Rattle.std.proofs.Common.{true, false, map, refl, subst, arith}
-use Rattle.trips.specs.Trips.{BestRate}
-use Rattle.pieces.specs.Sides.{ends_of}
-use Rattle.climbing.specs.Steps.{lanes_of}
-use Rattle.quoting.specs.Places.{shown}
-use Rattle.quoting.proofs.Places.{eight_long}
-use Rattle.quoting.proofs.Plans.{climb_starts, climb_turn, climb_ends, pass_turn}
+use Rattle.std.proofs.Common.{IsSome, subst, arith}
+use Rattle.std.proofs.lemmas.Bool.{false≢true}
+use Rattle.quoting.specs.Areas.{BestWithin}
+use Rattle.quoting.proofs.Plans.{rise_starts, rise_turn, rise_ends, above_first, step_there}
 use Rattle.quoting.proofs.passes.pass_to.Goals as goal
 
 pub loop-init : goal.loop-init
-loop-init g c n m u v h ru rv su sv b =
-    let K = g.R.Rate.kind in
-    let X = g.met.R.Rate.laws in
-    let f = g.R.Rate.means in
-    let a = c.args.areas in (
-      climb_starts K X n m a.records.sides.now a.records.pieces.now (map f a.lanes.now) (map f a.sheets.now) h c.args.stop c.args.from false u (shown f c.args.first) ru su,
-      climb_starts K X n m a.records.sides.now a.records.pieces.now (map f a.lanes.now) (map f a.sheets.now) h c.args.stop c.args.from true v (shown f c.args.last) rv sv,
-      b,
-    )
+loop-init g c n m u v h ru rv w = (
+  rise_starts g.R.Rate.kind g.met.R.Rate.laws g.R.Rate.means c.args.areas n m h c.args.stop c.args.from u ru,
+  rise_starts g.R.Rate.kind g.met.R.Rate.laws g.R.Rate.means c.args.areas n m h c.args.stop c.args.from v rv,
+  w,
+)
 
 pub returns-then-p-stop : goal.returns-then-p-stop
-returns-then-p-stop g c n m u v h ru rv su sv b =
-    let K = g.R.Rate.kind in
-    let f = g.R.Rate.means in
-    let a = c.args.areas in
-    subst (λ x. BestRate K (lanes_of K n (ends_of a.records.sides.now) a.records.pieces.now m x) u v (f c.loop.best)) c.if-p-stop.true (c.loop.invariant n m u v h ru rv su sv b).2
+returns-then-p-stop g c n m u v h ru rv w =
+    subst (λ x. BestWithin g.R.Rate.kind g.R.Rate.means c.args.areas n m x u v c.loop.reached.best) c.if-p-stop.true (c.loop.invariant n m u v h ru rv w).2.best
+
+pub returns-in_default : goal.returns-in_default
+returns-in_default g c n m u v h ru rv w =
+    let k = (c.loop.invariant n m u v h ru rv w).0 in
+    let z = above_first g.R.Rate.kind g.met.R.Rate.laws g.R.Rate.means c.args.areas n m h c.args.stop u c.loop.p k.reaches c.if-p-stop.false in
+    absurd (false≢true (subst IsSome c.in_default.is
+    (c.step_from.ensures.there (step_there g.R.Rate.kind g.met.R.Rate.laws g.R.Rate.means c.args.areas n m h c.loop.p z k.reaches.in_range))))
 
 pub loop-preserved : goal.loop-preserved
-loop-preserved g c n m u v h ru rv su sv b =
-    let K = g.R.Rate.kind in
-    let X = g.met.R.Rate.laws in
-    let f = g.R.Rate.means in
-    let a = c.args.areas in
-    let w = c.loop.invariant n m u v h ru rv su sv b in
-    let s = c.step_from-step.result in
-    let ne = c.if-p-stop.false in (
-      climb_turn K X n m a.records.sides.now a.records.pieces.now (map f a.lanes.now) (map f a.sheets.now) h c.args.stop c.args.from u c.loop.p s.up c.loop.counter false
-          (shown f c.loop.row) (shown f c.climb-row.result) s w.0 ne c.step_from-step.ensures refl (eight_long f c.climb-row.result) c.climb-row.ensures,
-      climb_turn K X n m a.records.sides.now a.records.pieces.now (map f a.lanes.now) (map f a.sheets.now) h c.args.stop c.args.from v c.loop.p s.up c.loop.counter true
-          (shown f c.loop.column) (shown f c.climb-column.result) s w.1 ne c.step_from-step.ensures refl (eight_long f c.climb-column.result) c.climb-column.ensures,
-      pass_turn K X n m a.records.sides.now a.records.pieces.now (map f a.lanes.now) (map f a.sheets.now) h c.args.stop c.args.from u v c.loop.p s.up c.loop.counter
-          (shown f c.loop.row) (shown f c.loop.column) s (f c.loop.best) (f c.by_seam.result) (f c.better_of_two-best.result) w.0 w.1 w.2 ne c.step_from-step.ensures refl c.by_seam.ensures c.better_of_two-best.ensures,
+loop-preserved g c n m u v h ru rv w =
+    let k = c.loop.invariant n m u v h ru rv w in
+    let z = above_first g.R.Rate.kind g.met.R.Rate.laws g.R.Rate.means c.args.areas n m h c.args.stop u c.loop.p k.0.reaches c.if-p-stop.false in (
+      rise_turn g.R.Rate.kind g.met.R.Rate.laws g.R.Rate.means c.args.areas n m h c.args.stop c.args.from u c.loop.p c.loop.counter c.in-Some.step
+          k.0 c.if-p-stop.false c.in-Some.ensures.is,
+      rise_turn g.R.Rate.kind g.met.R.Rate.laws g.R.Rate.means c.args.areas n m h c.args.stop c.args.from v c.loop.p c.loop.counter c.in-Some.step
+          k.1 c.if-p-stop.false c.in-Some.ensures.is,
+      c.known_above-reached.ensures n m c.loop.p u v h z k.0.reaches.in_range c.in-Some.ensures.is k.0.reaches.touches k.1.reaches.touches k.2,
     )
 
 pub returns : goal.returns
-returns g c n m u v h ru rv su sv b =
-    let f = g.R.Rate.means in
-    let a = c.args.areas in
-    absurd (climb_ends g.R.Rate.kind g.met.R.Rate.laws n m a.records.sides.now a.records.pieces.now (map f a.lanes.now) (map f a.sheets.now) h
-    c.args.stop c.args.from false u c.loop.p c.loop.counter (shown f c.loop.row) ru.in_range (c.loop.invariant n m u v h ru rv su sv b).0 (omega arith))
+returns g c n m u v h ru rv w =
+    absurd (rise_ends g.R.Rate.kind g.met.R.Rate.laws g.R.Rate.means c.args.areas n m h c.args.stop c.args.from u c.loop.p c.loop.counter
+    ru.in_range (c.loop.invariant n m u v h ru rv w).0 (omega arith))

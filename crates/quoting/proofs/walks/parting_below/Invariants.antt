@@ -8,6 +8,6 @@ use Rattle.quoting.proofs.walks.parting_below.Given as goal
 
 abbrev pub invariant-loop : goal.invariant-loop
 invariant-loop l =
-    (n : ℕ) → Filled n (ends_of l.sides) → Division n (ends_of l.sides) l.pieces → l.p + 5 < 2 * n
-    → Touches n (ends_of l.sides) (piece_at l.pieces l.p) l.u → Touches n (ends_of l.sides) (piece_at l.pieces l.p) l.v
-    → Descends n (ends_of l.sides) l.pieces l.p l.u l.q l.counter × Descends n (ends_of l.sides) l.pieces l.p l.v l.q l.counter
+    (n : ℕ) → Filled n (ends_of l.records.sides.now) → Division n (ends_of l.records.sides.now) l.records.pieces.now → l.p + 5 < 2 * n
+    → Touches n (ends_of l.records.sides.now) (piece_at l.records.pieces.now l.p) l.u → Touches n (ends_of l.records.sides.now) (piece_at l.records.pieces.now l.p) l.v
+    → Descends n (ends_of l.records.sides.now) l.records.pieces.now l.p l.u l.q l.counter × Descends n (ends_of l.records.sides.now) l.records.pieces.now l.p l.v l.q l.counter

@@ -1,11 +1,10 @@
-use Rattle.std.proofs.Common.{◌≡◌, ◌+◌, ◌*◌, map, length, drop, take, sym, refl, ap, ◌∙◌, subst, arith, length-take}
+use Rattle.std.proofs.Common.{◌*◌, map, length, drop, sym, ap, ◌∙◌, subst, arith, length-take}
 use Rattle.std.proofs.lemmas.Bool.{both_ways}
-use Rattle.std.proofs.lemmas.List.{length-map}
 use Rattle.records.specs.declared.Piece.{Piece}
 use Rattle.pieces.specs.Sides.{ends_of}
 use Rattle.piece_rates.specs.Leaves.{LeafStands}
 use Rattle.piece_rates.specs.Sheets.{SheetShows}
-use Rattle.piece_rates.proofs.Standing.{leaf_stands, parts_room}
+use Rattle.piece_rates.proofs.Standing.{leaf_stands}
 use Rattle.rewriting.proofs.Sheets.{parent_shown}
 use Rattle.rewriting.proofs.one.sheet_into.Goals as goal
 

@@ -31,10 +31,15 @@ returns-in_err-check_links c =
       left = rw p.1 refl;
     }
 
-pub fill_sides-requires : goal.fill_sides-requires
-fill_sides-requires c =
+pub write_sides-requires : goal.write_sides-requires
+write_sides-requires c =
     let r = room_enough c.args.n (length c.args.sides.now) c.args.links.now (c.in_ok-check_room.ensures c.args.links.now) in
-    (r.0, (r.1, r.2))
+    record { enough = r.0; few = r.1; room = r.2 }
+
+pub mark_links-requires : goal.mark_links-requires
+mark_links-requires c =
+    let r = room_enough c.args.n (length c.args.sides.now) c.args.links.now (c.in_ok-check_room.ensures c.args.links.now) in
+    record { enough = r.0; few = r.1 }
 
 pub returns : goal.returns
 returns c =
@@ -43,4 +48,4 @@ returns c =
     let room = c.in_ok-check_room.ensures links in
     let r = room_enough c.args.n (length c.args.sides.now) links room in
     let none = first_by_links c.args.n areas links (Ok tt) room (c.in_ok-check_links.ensures areas) in
-    record { checked = none; left = fills_drawn c.args.n areas links none (omega arith) c.args.sides.now _ c.fill_sides.ensures }
+    record { checked = none; left = fills_drawn c.args.n areas links none (omega arith) c.args.sides.now _ (c.mark_links.ensures c.args.sides.now c.write_sides.ensures) }

@@ -5,19 +5,19 @@ use Rattle.tape.specs.Laws.{tape_bytes}
 use Rattle.tape.proofs.TapeBytes.{blank, long_more, front_long}
 use Rattle.tape.proofs.tapes.fit_in.Goals as goal
 
-pub returns-then-left-long : goal.returns-then-left-long
-returns-then-left-long c =
+pub returns-in_default : goal.returns-in_default
+returns-in_default c =
     let cs = c.args.contents.now in
     let i = c.loop-content.content-index in
     let more = long_more cs i blank c.loop-content-test.true in
     let all = front_long cs (i + 1) in
-    let past : c.args.room < length (tape_bytes cs) = omega (arith, c.length-long.ensures, c.loop-content.invariant) in
+    let past : c.args.room < length (tape_bytes cs) = omega (arith, c.length.ensures, c.loop-content.invariant, c.in_default.ensures) in
     sym (lt-leb (length (tape_bytes cs)) c.args.room past)
 
 pub loop-content-preserved : goal.loop-content-preserved
 loop-content-preserved c =
     let more = long_more c.args.contents.now c.loop-content.content-index blank c.loop-content-test.true in
-    omega (arith, c.length-long.ensures, c.loop-content.invariant)
+    omega (arith, c.length.ensures, c.loop-content.invariant, c.in-Some.ensures)
 
 pub returns : goal.returns
 returns c =

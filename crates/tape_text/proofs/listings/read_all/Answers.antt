@@ -1,40 +1,36 @@
-use Rattle.std.proofs.Common.{◌≡◌, [], ◌∷◌, ◌++◌, map, vec_items, sym, refl, ap, ◌∙◌, subst}
-use Rattle.std.proofs.lemmas.List.{map_push}
-use Rattle.std.proofs.lemmas.Slice.{pushed}
+use Rattle.std.proofs.Common.{[], ◌∷◌, map, vec_items, sym, ap, ◌∙◌, subst}
+use Rattle.std.proofs.lemmas.List.{map-append}
 use Rattle.tape.specs.Laws.{part_of}
-use Rattle.tape.proofs.Runs.{Before, one_more, all_before, fault_before, shows_content, shows_content_end, shows_fault}
+use Rattle.tape.proofs.Runs.{Before, one_more, all_before, fault_before, item_none}
+use Rattle.tape_text.proofs.Shown.{content_shown, fault_shown}
 use Rattle.tape_text.proofs.listings.read_all.Goals as goal
 
-pub loop-next-preserved : goal.loop-next-preserved
-loop-next-preserved c =
+pub loop-record-preserved : goal.loop-record-preserved
+loop-record-preserved c =
     let t = c.args.tape.now in
-    let u = c.loop-next.reader.tape.now in
-    let p = c.loop-next.reader.at in
-    let q = c.next_content.new.self.at in
-    let x = c.in-Some.x in
-    let h = c.in-Ok.ensures in
-    let s = shows_content t u p q c.in-Ok.next x c.loop-next.invariant.0 c.in-Some.is h.shows in
-    let old = vec_items c.loop-next.records in
-    let grown : vec_items c.push.new.self ≡ old ++ x ∷ [] = pushed (x ∷ []) refl c.in_ok-push-in-Ok.was c.push.ensures.items in (
-      h.tape ∙ c.loop-next.invariant.0,
-      subst (Before t q) (sym (ap (map part_of) grown ∙ map_push part_of old x)) (one_more t p q (map part_of old) (part_of x) c.loop-next.invariant.1 s),
-    )
-
-pub returns-in_default : goal.returns-in_default
-returns-in_default c =
-    let t = c.args.tape.now in
-    let u = c.loop-next.reader.tape.now in
-    let p = c.loop-next.reader.at in
-    let h = c.in-Ok.ensures in
-    all_before t p (map part_of (vec_items c.loop-next.records)) c.loop-next.invariant.1
-    (shows_content_end t u p c.next_content.new.self.at c.in-Ok.next c.loop-next.invariant.0 c.in_default.is h.shows)
+    let it = c.loop-record.record-iterator in
+    let q = c.next.new.self.at in
+    let x = c.in-Ok.x in
+    let old = vec_items c.loop-record.records in
+    let s = content_shown t it.tape.now it.at q c.next.result c.loop-record.invariant.tape c.next.ensures.steps.1 c.in-Some.record c.placed.result x c.in-Some.is c.placed.ensures c.in-Ok.is in
+    record {
+      tape = c.next.ensures.steps.0 ∙ c.loop-record.invariant.tape;
+      shown =
+          subst (Before t q) (sym (ap (map part_of) c.in_ok-push-in-Ok.ensures.items ∙ map-append part_of old (x ∷ [])))
+          (one_more t it.at q (map part_of old) (part_of x) c.loop-record.invariant.shown s);
+    }
 
 pub returns-in-Err : goal.returns-in-Err
 returns-in-Err c =
     let t = c.args.tape.now in
-    let u = c.loop-next.reader.tape.now in
-    let p = c.loop-next.reader.at in
-    let q = c.next_content.new.self.at in
-    let h = c.in-Err.ensures in
-    fault_before t p q (map part_of (vec_items c.loop-next.records)) c.in-Err.fault c.loop-next.invariant.1
-    (shows_fault t u p q c.in-Err.fault c.loop-next.invariant.0 h.shows)
+    let it = c.loop-record.record-iterator in
+    let q = c.next.new.self.at in
+    fault_before t it.at q (map part_of (vec_items c.loop-record.records)) c.in-Err.fault c.loop-record.invariant.shown
+    (fault_shown t it.tape.now it.at q c.next.result c.loop-record.invariant.tape c.next.ensures.steps.1 c.in-Some.record c.placed.result c.in-Err.fault c.in-Some.is c.placed.ensures c.in-Err.is)
+
+pub returns : goal.returns
+returns c =
+    let t = c.args.tape.now in
+    let it = c.loop-record.record-iterator in
+    all_before t it.at (map part_of (vec_items c.loop-record.records)) c.loop-record.invariant.shown
+    (item_none t it.tape.now it.at c.next.new.self.at c.next.result c.loop-record.invariant.tape c.next.ensures.steps.1 c.in-None.is)

@@ -1,49 +1,72 @@
-use Rattle.std.proofs.Common.{◌+◌, length, vec_items, sym, subst, arith, rules}
-use Rattle.std.proofs.lemmas.Bool.{eqb-true, eqb-false}
+use Rattle.std.proofs.Common.{◌≡◌, ℕ, ◌+◌, true, length, Option, MatchOption, vec_items, sym, ◌∙◌, subst}
+use Rattle.std.specs.Iterator.Adapters.{enumerate_source, enumerate_count}
+use Rattle.std.specs.Str.Pattern.{FindsChar, IsSplitAtFirstMatch}
+use Rattle.std.specs.Str.Iter.{split_text, split_has_more, split_terminator_parts}
 use Rattle.tape_text.specs.declared.making.Line.TheVariants.{Remark, Record, Bad}
-use Rattle.tape_text.specs.Making.{FirstLine}
-use Rattle.tape_text.proofs.Spelling.{SoFar, less_left, past_remark, past_record, all_read, bad_line, line_is}
+use Rattle.tape_text.specs.Making.{BadAt}
+use Rattle.tape_text.proofs.Spelling.{SoFar, line_off, none_left, past_remark, past_record, all_read, bad_line, line_is}
 use Rattle.tape_text.proofs.making.read_text.Goals as goal
-use Rattle.tape_text.proofs.making.read_text.Goals.{in-Remark, in-Record+in_ok-push-in-Record}
+
+pub loop-i-preserved-in-Remark : goal.loop-i-preserved-in-Remark
+loop-i-preserved-in-Remark c =
+    let text = c.args.text.now in
+    let it = c.loop-i.i-iterator in
+    let lines = split_terminator_parts (enumerate_source it) in
+    let next = split_terminator_parts (enumerate_source c.next.new.self) in
+    let line = c.in-Some.line in
+    let old = vec_items c.loop-i.contents in
+    let (steps, place, count, _) = c.in-Some.ensures.steps in
+    let (_, kept, cut, blank) = steps in
+    let off = line_off (split_text lines) line (split_has_more next) (split_text next) (subst (λ v. IsSplitAtFirstMatch (FindsChar v) (split_text lines) line.now (split_has_more next) (split_text next)) c.loop-i.invariant.pattern cut) blank in
+    record {
+      pattern = kept ∙ c.loop-i.invariant.pattern;
+      gone = off.1;
+      so_far =
+          subst (λ n. SoFar text (split_text next) (n + 1) old) (sym count)
+          (past_remark text (split_text lines) line.now (split_text next) (enumerate_count it + 1) old c.loop-i.invariant.so_far off.0
+          (line_is line.now c.in_ok-read_line.field-0 Remark c.in-Remark.is c.in_ok-read_line.ensures));
+    }
+
+pub loop-i-preserved : goal.loop-i-preserved
+loop-i-preserved c =
+    let text = c.args.text.now in
+    let it = c.loop-i.i-iterator in
+    let lines = split_terminator_parts (enumerate_source it) in
+    let next = split_terminator_parts (enumerate_source c.next.new.self) in
+    let line = c.in-Some.line in
+    let more = vec_items c.push.new.self in
+    let (steps, place, count, _) = c.in-Some.ensures.steps in
+    let (_, kept, cut, blank) = steps in
+    let off = line_off (split_text lines) line (split_has_more next) (split_text next) (subst (λ v. IsSplitAtFirstMatch (FindsChar v) (split_text lines) line.now (split_has_more next) (split_text next)) c.loop-i.invariant.pattern cut) blank in
+    record {
+      pattern = kept ∙ c.loop-i.invariant.pattern;
+      gone = off.1;
+      so_far =
+          subst (λ n. SoFar text (split_text next) (n + 1) more) (sym count)
+          (past_record text (split_text lines) line.now (split_text next) (enumerate_count it + 1) (vec_items c.loop-i.contents) more c.in-Record.content c.loop-i.invariant.so_far off.0
+          (line_is line.now c.in_ok-read_line.field-0 (Record c.in-Record.content) c.in-Record.is c.in_ok-read_line.ensures) c.in_ok-push-in-Record.ensures.items);
+    }
 
 pub returns-in-Bad : goal.returns-in-Bad
 returns-in-Bad c =
-    let rest = c.loop-rest.rest.now in
-    let line = c.cut.result.0.now in
-    let next = c.cut.result.1.now in
-    let f : FirstLine rest line next = record { some = omega (arith, eqb-false (length rest) 0 (sym c.loop-rest-test.ensures)); cut = c.cut.ensures } in
-    bad_line c.args.text.now rest line next c.loop-rest.number (vec_items c.loop-rest.contents) c.loop-rest.invariant.1 f
-    (line_is line c.in_ok-read_line.field-0 Bad c.in-Bad.is c.in_ok-read_line.ensures)
-
-pub loop-rest-smaller : goal.loop-rest-smaller
-loop-rest-smaller c =
-    let rest = c.loop-rest.rest.now in
-    let f : FirstLine rest c.cut.result.0.now c.cut.result.1.now = record { some = omega (arith, eqb-false (length rest) 0 (sym c.loop-rest-test.ensures)); cut = c.cut.ensures } in
-    less_left rest c.cut.result.0.now c.cut.result.1.now f
-
-pub loop-rest-preserved : goal.loop-rest-preserved
-loop-rest-preserved c =
     let text = c.args.text.now in
-    let rest = c.loop-rest.rest.now in
-    let line = c.cut.result.0.now in
-    let next = c.cut.result.1.now in
-    let n = c.loop-rest.number in
-    let old = vec_items c.loop-rest.contents in
-    let is = c.in_ok-read_line.ensures in
-    let f : FirstLine rest line next = record { some = omega (arith, eqb-false (length rest) 0 (sym c.loop-rest-test.ensures)); cut = c.cut.ensures } in
-    let so_far : SoFar text next (n + 1) (vec_items c.match-branch-2.contents) =
-    elim c.match-branch-2.branch [
-      | in-Remark w ↦
-          subst (λ v. SoFar text next (n + 1) (vec_items v)) (sym w.contents-is)
-          (past_remark text rest line next n old c.loop-rest.invariant.1 f (line_is line c.in_ok-read_line.field-0 Remark w.in-Remark.is is))
-      | in-Record+in_ok-push-in-Record w ↦
-          subst (λ v. SoFar text next (n + 1) (vec_items v)) (sym w.contents-is)
-          (past_record text rest line next n old (vec_items w.push.new.self) w.in-Record.content c.loop-rest.invariant.1 f
-          (line_is line c.in_ok-read_line.field-0 (Record w.in-Record.content) w.in-Record.is is) w.in_ok-push-in-Record.ensures.items)
-    ] in
-    (search rules, so_far)
+    let it = c.loop-i.i-iterator in
+    let lines = split_terminator_parts (enumerate_source it) in
+    let next = split_terminator_parts (enumerate_source c.next.new.self) in
+    let line = c.in-Some.line in
+    let (steps, place, count, _) = c.in-Some.ensures.steps in
+    let (_, kept, cut, blank) = steps in
+    let off = line_off (split_text lines) line (split_has_more next) (split_text next) (subst (λ v. IsSplitAtFirstMatch (FindsChar v) (split_text lines) line.now (split_has_more next) (split_text next)) c.loop-i.invariant.pattern cut) blank in
+    subst (λ n. BadAt text (n + 1)) (sym place)
+    (bad_line text (split_text lines) line.now (split_text next) (enumerate_count it + 1) (vec_items c.loop-i.contents) c.loop-i.invariant.so_far off.0
+    (line_is line.now c.in_ok-read_line.field-0 Bad c.in-Bad.is c.in_ok-read_line.ensures))
 
 pub returns : goal.returns
 returns c =
-    all_read c.args.text.now c.loop-rest.rest.now c.loop-rest.number (vec_items c.loop-rest.contents) c.loop-rest.invariant.1
-    (eqb-true (length c.loop-rest.rest.now) 0 (sym c.loop-rest-test.ensures))
+    let text = c.args.text.now in
+    let it = c.loop-i.i-iterator in
+    let lines = split_terminator_parts (enumerate_source it) in
+    let rest = split_text lines in
+    let end = subst (λ v. split_has_more lines ≡ true → (o : Option (ℕ × ℕ)) × FindsChar v rest o × MatchOption o (length rest ≡ 0) (λ q. q.1 ≡ 0)) c.loop-i.invariant.pattern c.in-None.ensures.steps.0.0 in
+    all_read text rest (enumerate_count it + 1) (vec_items c.loop-i.contents) c.loop-i.invariant.so_far
+    (none_left rest (split_has_more lines) c.loop-i.invariant.gone end)

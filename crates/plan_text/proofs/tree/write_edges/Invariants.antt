@@ -1,9 +1,0 @@
-use Rattle.std.proofs.Common.{take}
-use Rattle.records.specs.Few.{listed}
-use Rattle.plan_text.specs.Pages.{GrownBy}
-use Rattle.plan_text.specs.Trees.{spaced}
-use Rattle.plan_text.proofs.tree.write_edges.Given as goal
-
--- the terminals so far are written
-abbrev pub invariant-loop-k : goal.invariant-loop-k
-invariant-loop-k l = GrownBy l.initial.page l.page (spaced (take l.k (listed l.edges)))

@@ -1,7 +1,0 @@
-use Rattle.std.proofs.Common.{Decides}
-use Rattle.ring.specs.Linked.{ends_at}
-use Rattle.ring.specs.Faults.{AmongFirst, Conflict}
-use Rattle.ring.proofs.scan.conflicts_earlier.Given as goal
-
-abbrev pub invariant-loop-j : goal.invariant-loop-j
-invariant-loop-j l = Decides l.found (AmongFirst Conflict (ends_at l.links l.i) l.links l.j)
