@@ -2,10 +2,10 @@
 -- Assumes nothing.
 use Rattle.std.proofs.Common.{◌≡◌, ℕ, zero, suc, ◌≤◌, eqb, List, ◌∷◌, length, get_or, set, Ok, Err, Result, sym, refl, ap, ◌∙◌, arith}
 use Rattle.std.proofs.lemmas.List.{length-set, get_or-set_same, get_or-set_other}
-use Rattle.std.proofs.lemmas.Bool.{cond-true, cond-false, eq-eqb, ne_eqb}
+use Rattle.std.proofs.lemmas.Bool.{cond-false, ne_eqb}
 use Rattle.stack.specs.declared.Stack.{Stack}
 use Rattle.stack.specs.Moves.{Pushed, PutOn, TakenOff}
-use Rattle.unfolding.specs.Parts.{Part, kept}
+use Rattle.unfolding.specs.Parts.{kept}
 use Rattle.routing.specs.declared.waiting.RoutePart.{RoutePart}
 use Rattle.routing.specs.Waiting.{part_of, no_part, waiting, parts_on, Put}
 
@@ -40,10 +40,6 @@ put_pushed list p differ (Err f) list' w = record {
   waits = λ l. absurd (omega (arith, w.full));
   at_most = omega (arith, w.same_size);
 }
-
--- a part whose ends are the same is left out
-pub kept_same : (q : Part) (parts : List Part) → q.from ≡ q.to → kept q parts ≡ parts
-kept_same q parts z = cond-true (eqb q.from q.to) parts (q ∷ parts) (eq-eqb q.from q.to z)
 
 -- the next part, and those behind it
 pub taken_off : (list : Stack RoutePart) (p : RoutePart) (list' : Stack RoutePart) → TakenOff list.len list.items.now p list'.len list'.items.now

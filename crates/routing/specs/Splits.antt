@@ -11,11 +11,13 @@ use Rattle.piece_rates.specs.Sizes.{largest}
 use Rattle.piece_rates.specs.Touching.{Touches}
 use Rattle.quoting.specs.declared.areas.Areas.{Areas}
 use Rattle.quoting.specs.Areas.{ends, TouchesPiece}
-use Rattle.unfolding.specs.Parts.{Part, kept, part_rate, child, child_part, child_rate, across_rate, across_parts, round_rate, round_parts}
+use Rattle.unfolding.specs.Parts.{Part, kept, part_rate, child, child_part, child_rate, across_rate, across_parts, round_rate, round_parts, split_across, split_at, split_together}
 use Rattle.unfolding.specs.Splitting.{Cut, Rated}
 use Rattle.routing.specs.declared.seam.Seam.{Seam}
 use Rattle.routing.specs.declared.split.SeamPart.{SeamPart}
 use Rattle.routing.specs.declared.split.Way.{Way}
+use Rattle.routing.specs.declared.waiting.Parts.{Parts}
+use Rattle.routing.specs.declared.waiting.RoutePart.{RoutePart}
 use Rattle.routing.specs.Seams.{is_first}
 use Rattle.routing.specs.Waiting.{kept_all}
 
@@ -96,3 +98,16 @@ module _ {V M : Type 0} {K : Kind M} {means : V → M} (p : SeamPart V) (plan : 
   Across i w =
       IsWay means w (across_parts K plan.best p.seam.piece p.seam.low p.seam.high p.part.from p.part.to (is_first p.child) i)
       (across_rate K plan.best p.seam.piece p.seam.low p.seam.high p.part.from p.part.to (is_first p.child) i)
+
+  -- the parts are those of the best of these ways
+  abbrev pub SplitTogether : Parts → Type 0
+  SplitTogether parts =
+      kept_all parts [] ≡ split_together K plan.best p.seam.piece p.seam.low p.seam.high p.part.from p.part.to (is_first p.child)
+
+  abbrev pub SplitAcross : Parts → Type 0
+  SplitAcross parts =
+      kept_all parts [] ≡ split_across K plan.best p.seam.piece p.seam.low p.seam.high p.part.from p.part.to (is_first p.child)
+
+-- the parts are those that a part of a cut piece is split into
+abbrev pub SplitAt : {V M : Type 0} {K : Kind M} {means : V → M} {a : Areas V} → RatedPlan K means a → Seam → RoutePart → Parts → Type 0
+SplitAt {K = K} plan s q parts = kept_all parts [] ≡ split_at K plan.best s.piece s.low s.high q.from q.to

@@ -1,9 +1,9 @@
 // A part of a cut piece, split at the seam into parts of its two children.
-ghost use Rattle.std.specs.Prelude.{◌≡◌, [], if◌then◌else◌};
-ghost use Rattle.unfolding.specs.Parts.{child, split_across, split_at, split_together};
+ghost use Rattle.std.specs.Prelude.{◌≡◌, if◌then◌else◌};
+ghost use Rattle.unfolding.specs.Parts.{child};
 ghost use Rattle.routing.specs.Seams.{is_first, is_low};
-ghost use Rattle.routing.specs.Splits.{Across, BothInChild, EndsApart, IsSeamOf, PartRate, PartTouches, RatedPlan, Round, TouchesSeam, Within};
-ghost use Rattle.routing.specs.Waiting.{kept_all, part_of};
+ghost use Rattle.routing.specs.Splits.{Across, BothInChild, EndsApart, IsSeamOf, PartRate, PartTouches, RatedPlan, Round, SplitAcross, SplitAt, SplitTogether, TouchesSeam, Within};
+ghost use Rattle.routing.specs.Waiting.{part_of};
 
 use crate::seam::{Child, End, Lie, Seam};
 use crate::waiting::{Parts, RoutePart};
@@ -33,14 +33,16 @@ fn part_rate<R: Rate>(areas: Areas<'_, R>, part: RoutePart) -> R
     best_within(areas, part.piece, part.from, part.to)
 }
 
-// The first way, unless the second is better.
-fn better_way<R: Rate>(first: Way<R>, second: Way<R>) -> Way<R>
-    ensures { result ≡ (if R.kind.better (R.means second.rate) (R.means first.rate) then second else first) }
-{
-    if second.rate.better(first.rate) {
-        second
-    } else {
-        first
+impl<R: Rate> Way<R> {
+    // This way, unless the other is better.
+    fn or_better(self, other: Way<R>) -> Way<R>
+        ensures { result ≡ (if R.kind.better (R.means other.rate) (R.means self.rate) then other else self) }
+    {
+        if other.rate.better(self.rate) {
+            other
+        } else {
+            self
+        }
     }
 }
 
@@ -100,23 +102,25 @@ impl<R: Rate> SeamPart<'_, R> {
 
     // Both terminals lie in the child: within it, unless going round by the other child is better.
     fn split_together(self) -> Parts
-        ensures { (plan : RatedPlan R.kind R.means self.entry.areas) → BothInChild self.entry plan → kept_all result [] ≡ split_together R.kind plan.best self.entry.seam.piece self.entry.seam.low self.entry.seam.high self.entry.part.from self.entry.part.to (is_first self.entry.child) }
+        ensures { (plan : RatedPlan R.kind R.means self.entry.areas) → BothInChild self.entry plan → SplitTogether self.entry plan result }
     {
-        let round = better_way(self.round(End::Low), self.round(End::High));
-        better_way(self.within(), round).parts
+        let round = self.round(End::Low).or_better(self.round(End::High));
+        self.within().or_better(round).parts
     }
 
     // The terminals lie in different children: by the seam's low end, unless by the high end is better.
     fn split_across(self) -> Parts
-        ensures { (plan : RatedPlan R.kind R.means self.entry.areas) → EndsApart self.entry plan → kept_all result [] ≡ split_across R.kind plan.best self.entry.seam.piece self.entry.seam.low self.entry.seam.high self.entry.part.from self.entry.part.to (is_first self.entry.child) }
+        ensures { (plan : RatedPlan R.kind R.means self.entry.areas) → EndsApart self.entry plan → SplitAcross self.entry plan result }
     {
-        better_way(self.across(End::Low), self.across(End::High)).parts
+        self.across(End::Low)
+            .or_better(self.across(End::High))
+            .parts
     }
 }
 
 // The parts that a part of a cut piece is split into.
 pub(crate) fn split<R: Rate>(areas: Areas<'_, R>, seam: Seam, part: RoutePart) -> Parts
-    ensures { (plan : RatedPlan R.kind R.means areas.entry) → IsSeamOf plan seam → TouchesSeam plan seam part.from → TouchesSeam plan seam part.to → kept_all result [] ≡ split_at R.kind plan.best seam.piece seam.low seam.high part.from part.to }
+    ensures { (plan : RatedPlan R.kind R.means areas.entry) → IsSeamOf plan seam → TouchesSeam plan seam part.from → TouchesSeam plan seam part.to → SplitAt plan seam part result }
 {
     match seam.lie(part.from, part.to) {
         Lie::Together(child) => SeamPart {

@@ -14,7 +14,7 @@ returns-then-is_none-clause-found g c n m is o below to_below room long = record
 
 pub returns-in_err-count-clause-found : goal.returns-in_err-count-clause-found
 returns-in_err-count-clause-found g c n m is o below to_below room long =
-    let front : length (take c.args.areas.n c.args.stops.now) ≡ c.args.areas.n = length-take-le c.args.areas.n c.args.stops.now c.if-stops-areas.false in
+    let front : length (take c.args.areas.n c.args.stops.now) ≡ c.args.areas.n = length-take-le c.args.areas.n c.args.stops.now (omega arith) in
     absurd (c.in_err-count.ensures n m (g.R.Rate.means c.best_rate-rate.result) is o below to_below (omega arith) (omega (arith, front))
     (c.best_rate-rate.ensures n m o below to_below) (λ z. both_ways c.is_none.result c.if-is_none.false (c.is_none.ensures.1 z)))
 
@@ -25,7 +25,7 @@ returns-clause-found g c n m is o below to_below room long =
     let rate = g.R.Rate.means c.best_rate-rate.result in
     let best = c.best_rate-rate.ensures n m o below to_below in
     let some : rate ≡ g.R.Rate.kind.none → ⊥ = λ z. both_ways c.is_none.result c.if-is_none.false (c.is_none.ensures.1 z) in
-    let front : length (take n₀ xs) ≡ n₀ = length-take-le n₀ xs c.if-stops-areas.false in
+    let front : length (take n₀ xs) ≡ n₀ = length-take-le n₀ xs (omega arith) in
     let written = c.in_ok-count.ensures n m rate is o below to_below (omega arith) (omega (arith, front)) best some in (
       record {
         rate_is_best = best;
