@@ -9,7 +9,7 @@ use std::alloc::{AllocError, Global};
 use std::io;
 use tape_text::{list_tape, make_tape};
 
-// The value of a hexadecimal digit, in small letters; 0 for any other byte.
+// The value of a hexadecimal digit, in small letters; 0 for any other byte. No `to_digit`, which takes capitals too.
 fn nibble(b: u8) -> u8
     ensures { result ≡ nibble_of b }
 {
@@ -20,7 +20,7 @@ fn nibble(b: u8) -> u8
     }
 }
 
-// A byte for each two digits.
+// A byte for each two digits. No crate `hex`, which refuses what this reads as 0.
 fn unhex(heap: Global, digits: &[u8]) -> Result<Vec<u8>, AllocError>
     ensures { IfOk result (λ v. vec_len v ≡ length digits.now / 2) }
 {

@@ -1,6 +1,6 @@
 -- A text read line by line: what has been read so far, followed by what the rest spells, is what the text spells.
 -- Assumes what one line is.
-use Rattle.std.proofs.Common.{◌≡◌, ℕ, ◌+◌, ◌<◌, ◌≤◌, Bool, true, false, eqb, List, [], ◌∷◌, ◌++◌, length, get_or, Some, None, Decides, Option, MatchOption, Bor, sym, refl, ap, ◌∙◌, subst, inl, inr, arith}
+use Rattle.std.proofs.Common.{◌≡◌, ℕ, ◌+◌, Bool, true, false, eqb, List, [], ◌∷◌, ◌++◌, length, get_or, Some, None, Decides, Option, MatchOption, Bor, sym, refl, ap, ◌∙◌, subst, inl, inr, arith}
 use Rattle.std.specs.Str.Pattern.{FindsChar, IsSplitAtFirstMatch}
 use Rattle.std.proofs.lemmas.List.{append_assoc, append-nil, length-append}
 use Rattle.std.proofs.lemmas.Bool.{eqb-false, both_ways}
@@ -16,15 +16,6 @@ use Rattle.tape_text.specs.Making.{Trimmed, BehindPlace, IsRemark, OnLine, LineI
 pub record SoFar (text rest : List ℕ) (number : ℕ) (done : List Content) : Type 0 where
   pub spelled : (cs : List Content) → Spells rest cs → Spells text (done ++ cs)
   pub bad : (n : ℕ) → BadAt rest n → (m : ℕ) × (m + 1 ≡ number + n) × BadAt text m
-  pub few : number + length rest ≤ length text + 1
-  pub counted : 1 ≤ number
-
--- behind a line that was cut off, less is left
-pub less_left : (text line rest : List ℕ) → FirstLine text line rest → length rest < length text
-less_left text line rest f = elim (f.cut (omega arith)) [
-  | inl t ↦ let l = ap length t.whole ∙ length-append line (10 ∷ rest) in omega arith
-  | inr n ↦ let l = ap length n.rest in let s = f.some in omega arith
-]
 
 -- what the splitter cuts off a text that is left is its first line, and nothing is left behind a line with no end
 pub line_off : (w : List ℕ) (x : Bor (List ℕ)) (live : Bool) (rest : List ℕ) → IsSplitAtFirstMatch (FindsChar 10) w x.now live rest → (length x.now ≡ 0 → live ≡ true) → FirstLine w x.now rest × (live ≡ false → length rest ≡ 0)
@@ -54,26 +45,16 @@ good_line text rest line next number done s f g n b =
 
 pub past_remark : (text rest line next : List ℕ) (number : ℕ) (done : List Content) → SoFar text rest number done → FirstLine rest line next → LineIs line Remark → SoFar text next (number + 1) done
 past_remark text rest line next number done s f g =
-    let less = less_left rest line next f in
-    let few = s.few in
-    let some = s.counted in
     record {
       spelled = λ cs w. s.spelled cs (remark rest line next cs f g w);
       bad = good_line text rest line next number done s f (inl g);
-      few = omega arith;
-      counted = omega arith;
     }
 
 pub past_record : (text rest line next : List ℕ) (number : ℕ) (done more : List Content) (c : Content) → SoFar text rest number done → FirstLine rest line next → LineIs line (Record c) → more ≡ done ++ c ∷ [] → SoFar text next (number + 1) more
 past_record text rest line next number done more c s f g e =
-    let less = less_left rest line next f in
-    let few = s.few in
-    let some = s.counted in
     record {
       spelled = λ cs w. subst (λ v. Spells text v) (sym (ap (λ v. v ++ cs) e ∙ append_assoc done (c ∷ []) cs)) (s.spelled (c ∷ cs) (said rest line next c cs f g w));
       bad = good_line text rest line next number done s f (inr (c, g));
-      few = omega arith;
-      counted = omega arith;
     }
 
 pub all_read : (text rest : List ℕ) (number : ℕ) (done : List Content) → SoFar text rest number done → length rest ≡ 0 → Spells text done

@@ -5,7 +5,7 @@ ghost use Rattle.tape.specs.Laws.{tape_bytes};
 ghost use Rattle.tape_text.specs.declared.making.MakeFault.TheVariants.{NoMemory};
 ghost use Rattle.tape_text.specs.Making.{make_fault_text, BehindPlace, LineIs, Reads, Makes};
 
-use crate::parsing::{cut, parse};
+use crate::parsing::parse;
 use std::alloc::{AllocError, AllocFailed, Global};
 use std::error::Error;
 use std::fmt;
@@ -60,11 +60,9 @@ pub enum Line {
 fn behind_place(text: &str) -> &str
     ensures { BehindPlace text.now result.now }
 {
-    let (before, behind) = cut(text, ':');
-    if before.len() < text.len() {
-        behind.trim()
-    } else {
-        text
+    match text.split_once(':') {
+        Some((_, behind)) => behind.trim(),
+        None => text,
     }
 }
 

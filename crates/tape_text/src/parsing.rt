@@ -8,7 +8,7 @@ use tape::{Content, Ends, HeadFields, Kind, LaneRate};
 
 // What stands before the first such character, and what stands behind it; the whole text and
 // nothing behind it where it has none.
-pub fn cut(text: &str, at: char) -> (&str, &str)
+fn cut(text: &str, at: char) -> (&str, &str)
     ensures { CutIs text.now at result.0.now result.1.now }
 {
     text.split_once(at).unwrap_or((text, ""))
