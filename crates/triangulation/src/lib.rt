@@ -10,8 +10,7 @@ pub fn fill_is_decided_by_links()
     ensures unique { OneFill }
     ensures triangulates { FillTriangulates }
     ensures draws_links { LinksAreSides }
-{
-}
+{}
 
 // Which subtree stands where in the preorder.
 pub fn preorder_is_read_by_place()
@@ -20,11 +19,9 @@ pub fn preorder_is_read_by_place()
     ensures read { ReadByPlace }
     ensures lengths { LengthsFromPlaces }
     ensures sorted { PreorderIsSorted }
-{
-}
+{}
 
 // Every triangle lies on one side of a given side.
 pub fn side_parts_the_ring()
     ensures { SidesPartTheRing }
-{
-}
+{}
