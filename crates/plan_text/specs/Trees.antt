@@ -37,13 +37,13 @@ abbrev pub single_text : List Side → ℕ → List ℕ
 single_text sides i = codes "triangle " ++ triangle_text sides i
 
 -- how many triangles a piece has, and its seam
-abbrev pub cut_text : List Side → Piece → List ℕ
-cut_text sides piece =
+abbrev pub divided_text : List Side → Piece → List ℕ
+divided_text sides piece =
     decimal (triangles (lengths sides) (listed piece.holes) piece.top) ++ (codes " triangles, seam " ++ ends_text sides piece.seam)
 
 -- what a piece is: its one triangle, or how many it has and its seam
 abbrev pub content_text : List Side → Piece → List ℕ
-content_text sides piece = if piece.first == 0 then single_text sides piece.top else cut_text sides piece
+content_text sides piece = if piece.first == 0 then single_text sides piece.top else divided_text sides piece
 
 -- two blanks for each level
 abbrev pub indent : ℕ → List ℕ

@@ -110,7 +110,6 @@ fn write_line(text: &mut String, from: Point, to: Point, style: &str) -> Result<
 }
 
 // Writes a broad line from one point to another, in a colour.
-#[tactic(auto, unfolding(crate::specs::Pictures::broad_line_text))]
 fn write_broad_line(
     text: &mut String,
     from: Point,
@@ -167,7 +166,6 @@ fn write_sides(text: &mut String, laid: &Laid) -> Result<(), AllocError>
 }
 
 // Writes a circle with the terminal's number in it.
-#[tactic(auto, unfolding(crate::specs::Pictures::mark_text))]
 fn write_mark(text: &mut String, at: Point, terminal: u16) -> Result<(), AllocError>
     requires { InMargins at }
     ensures { OnOk result (GrownBy text.old text.new (mark_text at terminal)) }
@@ -230,7 +228,6 @@ fn write_levels(text: &mut String, last: u8) -> Result<(), AllocError>
 }
 
 // Writes what comes before the picture's parts: its size.
-#[tactic(auto, unfolding(crate::specs::Pictures::sized_head_text))]
 fn write_head(text: &mut String, size: usize) -> Result<(), AllocError>
     ensures { OnOk result (GrownBy text.old text.new (sized_head_text size)) }
 {

@@ -1,7 +1,7 @@
 // The division as a tree, one line for a piece, and the one-line summary.
 ghost use Rattle.std.specs.Prelude.{OnOk};
 ghost use Rattle.plan_text.specs.Texts.{GrownBy, GrownByA};
-ghost use Rattle.plan_text.specs.Trees.{content_text, cut_text, edges_text, ends_text, fault_text, indent, link_ends_text, link_text, piece_text, single_text, spaced, summary_text, SummaryText, tree_text};
+ghost use Rattle.plan_text.specs.Trees.{content_text, divided_text, edges_text, ends_text, fault_text, indent, link_ends_text, link_text, piece_text, single_text, spaced, summary_text, SummaryText, tree_text};
 
 use crate::laid::{Laid, deepest, most_holders};
 use cutting::{high_end, low_end, triangles};
@@ -49,7 +49,7 @@ fn write_triangle(text: &mut String, sides: &[Side], i: u16) -> Result<(), Alloc
 
 // Writes how many triangles a piece has, and its seam.
 fn write_cut(text: &mut String, sides: &[Side], piece: Piece) -> Result<(), AllocError>
-    ensures { OnOk result (GrownBy text.old text.new (cut_text sides.now piece)) }
+    ensures { OnOk result (GrownBy text.old text.new (divided_text sides.now piece)) }
 {
     let count = triangles(sides, piece.holes, piece.top);
     write!(text, "{count} triangles, seam ")?;

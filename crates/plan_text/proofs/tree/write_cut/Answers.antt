@@ -1,5 +1,5 @@
 use Rattle.std.proofs.Common.{append_assoc}
-use Rattle.plan_text.specs.Trees.{cut_text}
+use Rattle.plan_text.specs.Trees.{divided_text}
 use Rattle.plan_text.proofs.Texts.{GrownBy-append, GrownBy-same, on_ok}
 use Rattle.plan_text.proofs.tree.write_cut.Goals as goal
 
@@ -9,5 +9,5 @@ returns c =
     let after = c.write_ends.new.text in
     let count = c.triangles-count.ensures in
     on_ok c.write_ends.result c.write_ends.ensures (λ end.
-    GrownBy-same before after _ (cut_text c.args.sides.now c.args.piece)
+    GrownBy-same before after _ (divided_text c.args.sides.now c.args.piece)
     (GrownBy-append before c.write.new.self after _ _ c.in_ok-write.ensures.bytes end) (rw count (simp append_assoc)))

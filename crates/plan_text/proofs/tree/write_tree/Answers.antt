@@ -1,4 +1,4 @@
-use Rattle.std.proofs.Common.{◌≡◌, ◌+◌, ◌<◌, [], ◌++◌, get_or, length, take, sym, ap, ◌∙◌, arith}
+use Rattle.std.proofs.Common.{◌+◌, ◌<◌, [], ◌++◌, get_or, length, take, sym, ap, ◌∙◌, arith}
 use Rattle.records.specs.declared.Piece.{Piece}
 use Rattle.plan_text.specs.Trees.{piece_text, lines_from}
 use Rattle.plan_text.proofs.Texts.{GrownBy-append, GrownBy-same}
