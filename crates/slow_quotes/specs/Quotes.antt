@@ -2,12 +2,15 @@
 -- Assumes nothing; the kind of rate is any, with its words and its text.
 use Rattle.std.specs.Prelude.{◌≡◌, ℕ, ◌⊎◌, List, [], ◌∷◌, ◌++◌, Some, None, Ok, Err, Option, Result, codes, decimal, string_bytes}
 use Rattle.std.specs.List.{flat_map}
-use Rattle.offers.specs.Words.{CentsRead, TonnesRead, PairRead, cents_text, tonnes_text}
+use Rattle.offers.specs.declared.kinds.KindName.{KindName}
+use Rattle.offers.specs.KindNames.{name_of}
+use Rattle.offers.specs.Words.{CentsRead, TonnesRead, PairRead}
 use Rattle.rates.specs.Amounts.{cents_kind}
 use Rattle.rates.specs.Kinds.{Kind}
 use Rattle.rates.specs.Loads.{tonnes_kind}
 use Rattle.rates.specs.Meanings.{amount_of, load_of}
 use Rattle.rates.specs.Pairs.{couple_of, pair_kind}
+use Rattle.rates.specs.Texts.{cents_text, tonnes_text}
 use Rattle.trips.specs.Trips.{NoEarning}
 use Rattle.slow_quotes.specs.declared.order.Order.{Order}
 use Rattle.slow_quotes.specs.declared.fault.Fault.{Fault}
@@ -15,7 +18,6 @@ use Rattle.slow_quotes.specs.declared.fault.Fault.TheVariants.{NoKind, NoOrder}
 use Rattle.slow_quotes.specs.declared.quotes.Line.{Line}
 use Rattle.slow_quotes.specs.declared.held.Quotation.{Quotation}
 use Rattle.slow_quotes.specs.Faults.{reason}
-use Rattle.slow_quotes.specs.KindNames.{cents_name, tonnes_name, pairs_name, NamesKind}
 use Rattle.slow_quotes.specs.Orders.{OrderIs}
 use Rattle.slow_quotes.specs.Networks.{Network, WithoutLanes, Answered}
 
@@ -74,6 +76,24 @@ module _ {M V : Type 0} (K : Kind M) (means : V → M) (Reads : List ℕ → Opt
     pub last : Network M
     pub up_to : QuotedUpTo lines last said
     pub none_earns : NoEarning K last.lanes
+
+-- the names of the kinds
+abbrev pub cents_name : List ℕ
+cents_name = codes "cents"
+
+abbrev pub tonnes_name : List ℕ
+tonnes_name = codes "tonnes"
+
+abbrev pub pairs_name : List ℕ
+pairs_name = codes "cents before tonnes"
+
+abbrev pub NamesKind : List ℕ → Type 0
+NamesKind name = (name ≡ cents_name) ⊎ (name ≡ tonnes_name) ⊎ (name ≡ pairs_name)
+
+-- what is printed above the answers to lines: the name of their kind, if one is named yet
+abbrev pub heading : Option KindName → List ℕ
+heading None = codes "no kind"
+heading (Some kind) = name_of kind
 
 abbrev pub CentsQuoted : List Line → List ℕ → Type 0
 CentsQuoted = Quoted cents_kind amount_of CentsRead cents_text

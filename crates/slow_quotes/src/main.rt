@@ -3,11 +3,10 @@
 
 mod fault;
 mod held;
-mod kind_name;
 mod order;
 mod quotes;
 
-use kind_name::KindName;
+use offers::kinds::KindName;
 use quotes::{Line, told};
 use std::io;
 use std::io::{BufRead, BufReader};

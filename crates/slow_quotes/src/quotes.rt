@@ -1,13 +1,12 @@
 // The text that lines of orders are answered with.
 ghost use Rattle.std.specs.Prelude.{◌≡◌, map, IfOk, string_bytes};
-ghost use Rattle.slow_quotes.specs.KindNames.{heading};
 ghost use Rattle.slow_quotes.specs.Networks.{network_of};
-ghost use Rattle.slow_quotes.specs.Quotes.{fault_text, quotation_text, kindless_text, LineAnswered, Quoted, Told};
+ghost use Rattle.slow_quotes.specs.Quotes.{fault_text, quotation_text, kindless_text, heading, LineAnswered, Quoted, Told};
 
 use crate::fault::Fault;
 use crate::held::{Held, Quotation};
-use crate::kind_name::KindName;
 use crate::order::read_order;
+use offers::kinds::KindName;
 use offers::written::Written;
 use rates::cents::Cents;
 use rates::pair::Pair;
@@ -27,7 +26,7 @@ fn quotation_text<R: Written>(heap: Global, quotation: Quotation<R>) -> Result<S
 {
     let from = quotation.ends.from;
     let to = quotation.ends.to;
-    let rate = quotation.rate.show(heap)?;
+    let rate = quotation.rate;
     format!(in heap; "{from} to {to}: {rate}\n")
 }
 
