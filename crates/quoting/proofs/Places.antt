@@ -1,6 +1,6 @@
 -- Places of sheets and lines, and the sizes that keep each join exact.
 -- Assumes the laws where they are named.
-use Rattle.std.proofs.Common.{◌≡◌, ℕ, zero, suc, ◌+◌, ◌*◌, ◌<◌, ◌≤◌, Bool, true, false, cond, ltb, List, [], ◌∷◌, length, get_or, drop, Some, None, Option, is_some, Decides, refl, sym, ap, ◌∙◌, subst, ⊎_elim, arith, length-take, get_or-drop}
+use Rattle.std.proofs.Common.{◌≡◌, ℕ, zero, suc, ◌+◌, ◌*◌, ◌<◌, ◌≤◌, Bool, true, false, cond, List, [], ◌∷◌, length, get_or, drop, Some, None, Option, is_some, Decides, refl, sym, ap, ◌∙◌, subst, ⊎_elim, arith, length-take, get_or-drop}
 use Rattle.std.proofs.lemmas.Bool.{cond-true, cond-false, lt-ltb, le-ltb}
 use Rattle.std.proofs.lemmas.List.{get_or_past, get_or-take}
 use Rattle.rates.specs.Kinds.{Kind, Laws}

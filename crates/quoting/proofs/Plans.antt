@@ -18,7 +18,6 @@ use Rattle.piece_rates.specs.Sizes.{Within}
 use Rattle.piece_rates.specs.Lanes.{piece_lanes}
 use Rattle.piece_rates.specs.Leaves.{leaf_lanes, LanesWithin, LeafStands}
 use Rattle.piece_rates.specs.Triangles.{triangle_entry}
-use Rattle.piece_rates.specs.Touching.{Touches}
 use Rattle.piece_rates.proofs.Holding.{among_decided}
 use Rattle.piece_rates.proofs.Places.{place_first}
 use Rattle.piece_rates.proofs.Sizes.{at_among, piece_no_earning}
@@ -33,7 +32,7 @@ use Rattle.climbing.specs.Steps.{across_of, edges_of, lanes_of, PartedAt, SeamSt
 use Rattle.climbing.proofs.Lines.{sheets_have_lines, triangles_have_lines, lines_are_within}
 use Rattle.climbing.proofs.Ways.{ways_up, parted_between_children}
 use Rattle.climbing.proofs.Steps.{steps_keep}
-use Rattle.quoting.specs.Areas.{ends, is_into, piece_of, TouchesPiece, ReachesFrom, PartsFrom, PlanInOrder, BestWithin, LineAt}
+use Rattle.quoting.specs.Areas.{ends, is_into, TouchesPiece, ReachesFrom, PartsFrom, PlanInOrder, BestWithin, LineAt}
 use Rattle.quoting.specs.Climbs.{IsStepFrom, KnownAt}
 use Rattle.quoting.specs.Places.{shown, IsLineOf, cell_at, by_half_at, climb_at, climbed_at, to_low_at, to_high_at, by_seam_at, step_at, triangle_place_at}
 use Rattle.quoting.specs.declared.areas.Areas.{Areas}

@@ -1,6 +1,6 @@
 -- Lines and their climbs by places of sheets in place of terminals.
 -- Assumes nothing: a place past the end of a sheet or a line reads none.
-use Rattle.std.specs.Prelude.{◌≡◌, ℕ, ◌+◌, ◌*◌, ◌<◌, ◌≤◌, Bool, false, cond, ◌&&◌, Some, None, Option, List, [], ◌∷◌, length, nat_lt, slice_index, slice_index_or}
+use Rattle.std.specs.Prelude.{◌≡◌, ℕ, ◌<◌, ◌≤◌, Bool, false, cond, ◌&&◌, Some, None, Option, List, [], ◌∷◌, length, nat_lt, slice_index, slice_index_or}
 use Rattle.rates.specs.Kinds.{Kind}
 use Rattle.rates.specs.Many.{better_of}
 use Rattle.records.specs.declared.Piece.{Piece}

@@ -101,10 +101,10 @@ impl<R: Rate> Climb<R> {
     fn place(&self, areas: Areas<'_, R>, k: usize) -> R
         ensures { CanJoin R.kind R.means areas.entry self.now → R.means result ≡ climb_place_of R.kind R.means areas.entry self.now k }
     {
-        if k < self.step.edges.len() {
-            self.rate(areas, self.step.edges.get(k))
-        } else {
-            R::none()
+        let edges = self.step.edges;
+        match edges.as_slice().get(k) {
+            Some(t) => self.rate(areas, *t),
+            None => R::none(),
         }
     }
 }

@@ -96,10 +96,9 @@ fn triangle_rate<R: Rate>(t: Triangle<R>, direction: Direction, u: u16, v: u16) 
 fn triangle_place<R: Rate>(t: Triangle<R>, edges: Few, direction: Direction, u: u16, k: usize) -> R
     ensures { LanesWithin R.kind (triangle_lanes R.kind R.means t) → R.means result ≡ triangle_place_at R.kind R.means t (listed edges) (is_into direction) u k }
 {
-    if k < edges.len() {
-        triangle_rate(t, direction, u, edges.get(k))
-    } else {
-        R::none()
+    match edges.as_slice().get(k) {
+        Some(v) => triangle_rate(t, direction, u, *v),
+        None => R::none(),
     }
 }
 
