@@ -31,6 +31,7 @@ fn relax_from<R: Rate>(base: R, out: &[R], row: &mut [R]) -> bool
     ensures { Relaxed R.kind (R.means base) (member_at R.kind (map R.means out.now)) (member_at R.kind (map R.means row.old)) (member_at R.kind (map R.means row.new)) (length row.new) result }
 {
     let mut changed = false;
+    // Not by `zip`: of what is written through an adapter of `iter_mut` a proof knows nothing.
     for (w, held) in row.iter_mut().enumerate() {
         let rate = base.join(out[w]);
         if rate.better(*held) {
@@ -45,6 +46,7 @@ fn relax_from<R: Rate>(base: R, out: &[R], row: &mut [R]) -> bool
 fn clear<R: Rate>(row: &mut [R])
     ensures { (w : ℕ) → member_at R.kind (map R.means row.new) w ≡ R.kind.none }
 {
+    // Not by `fill`, which asks for a clone that cannot fail: the bound does not say so of a rate.
     for place in row.iter_mut() {
         *place = R::none();
     }
@@ -82,6 +84,7 @@ impl<'a, R: Rate> Lanes<'a, R> {
     {
         let n = self.n;
         let mut changed = false;
+        // By number, since the row is written while its places are read.
         for v in 0..n {
             let base = row[v];
             changed |= relax_from(base, &self.rates[n * v..n * v + n], row);
