@@ -59,7 +59,7 @@ impl From<Full> for Undivided {
 // How many pieces may wait to be cut. At most 41 ever do.
 pub const TODO_PIECES: usize = 64;
 
-// Cuts the plan and marks its sides.
+// Cuts the plan and marks its sides. A count beside the lent areas, since these may be longer than the plan needs.
 fn divide_front(
     sides: &mut [Side],
     count: u16,

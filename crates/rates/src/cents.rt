@@ -9,6 +9,7 @@ ghost use Rattle.rates.specs.Texts.{cents_text};
 use crate::kind::{Rate, Strict};
 use std::fmt;
 
+// Not an Option: `Cents::Whole(5)` says what the number is, and no method of Option joins or compares rates as cents do.
 #[derive(Clone, Copy, Debug)]
 pub enum Cents {
     None,

@@ -6,6 +6,7 @@ ghost use Rattle.records.specs.Few.{added, listed, none, Position, raised};
 ghost use Rattle.records.specs.Limits.{limit, RowOfLimits};
 
 // Up to eight numbers: the first `count` of `at`, the other places 0.
+// A fixed array with a count beside it, since the records that hold it lie in lent memory and are copied.
 #[derive(Clone, Copy, Debug, PartialEq, Eq)]
 pub struct Few {
     pub count: u8,
@@ -76,7 +77,8 @@ impl Few {
 
 // A piece: a set of triangles joined along sides, those below the side `top` and outside the sides `holes`.
 // Sides and pieces go by their index. The bounding seams are the holes, and the top unless it is the side 0;
-// `edges` are their ends in rising order. A piece of one triangle has no children and no seam: 0 stands there.
+// `edges` are their ends in rising order. A piece of one triangle has no children and no seam: 0 stands there, and not an
+// Option, since the size of a record sets how much memory is lent for a plan.
 #[derive(Clone, Copy, Debug, PartialEq, Eq)]
 pub struct Piece {
     pub parent: u16,

@@ -8,6 +8,7 @@ use std::error::Error;
 use std::fmt;
 
 // The first `len` places of `items` are in use; the last of them is on top.
+// A lent slice with a length beside it, since the kernel that uses it has no heap.
 #[derive(Drop)]
 pub struct Stack<'a, E> {
     items: &'a mut [E],
