@@ -5,14 +5,14 @@ ghost use Rattle.pieces.specs.Sides.{ends_of, lengths, within};
 
 use ring::Side;
 
-// The lower end of the side i; 0 past the last record.
+// The lower end of the side i; 0 past the last record, and no Option: the definitions of a division read 0 there.
 pub fn low_end(sides: &[Side], i: u16) -> u16
     ensures { result ≡ (ends_of sides.now).low i }
 {
     sides.get(i as usize).map_or(0, |side| side.low)
 }
 
-// The higher end of the side i; 0 past the last record.
+// The higher end of the side i; 0 past the last record, and no Option: the definitions of a division read 0 there.
 pub fn high_end(sides: &[Side], i: u16) -> u16
     ensures { result ≡ (ends_of sides.now).high i }
 {

@@ -1,5 +1,5 @@
 // The kinds of rate by their names in texts.
-ghost use Rattle.std.specs.Prelude.{Some};
+ghost use Rattle.std.specs.Prelude.{Some, codes};
 ghost use Rattle.offers.specs.KindNames.{name_of, Names};
 
 use std::error::Error;
@@ -30,6 +30,8 @@ impl fmt::Display for KindName {
 pub struct UnknownKind;
 
 impl fmt::Display for UnknownKind {
+    ghost output = { λ _. Some (codes "no kind of rate has this name") };
+
     fn fmt<W: fmt::Write>(&self, f: &mut fmt::Formatter<W>) -> fmt::Result {
         write!(f, "no kind of rate has this name")
     }

@@ -10,7 +10,8 @@ use holders::Records;
 use rates::kind::Rate;
 use sheets::{ROW, SHEET, rate_at};
 
-// The number of terminals, and the areas that a plan's records, lanes and sheets stand in.
+// The number of terminals, and the areas that a plan's records, lanes and sheets stand in. That a plan is in order is a premise of
+// promises and no invariant: areas of any content are read safely.
 #[derive(Clone, Copy)]
 pub struct Areas<'a, R> {
     pub n: usize,

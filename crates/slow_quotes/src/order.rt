@@ -45,7 +45,7 @@ fn named<R: Written>(words: FewWords<'_>) -> Option<Order<R>>
     }
 }
 
-// The order that a line writes, if it writes one.
+// The order that a line writes, if it writes one. An Option and not `FromStr`: there is nothing to say of a text without an order.
 pub fn read_order<R: Written>(text: &str) -> Option<Order<R>>
     ensures { OrderIs R.Written.reads text.now result }
 {

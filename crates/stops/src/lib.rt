@@ -14,7 +14,8 @@ fn place_among(stops: &[u16], terminal: u16) -> Option<usize>
     stops.iter().position(|stop| *stop == terminal)
 }
 
-// The first `count` places hold the stops so far.
+// The first `count` places hold the stops so far. A lent slice with a count beside it, as the kernel has no heap; no stack, since
+// stops are looked through and cut back.
 #[derive(Drop)]
 pub struct Stops<'a> {
     places: &'a mut [u16],

@@ -111,7 +111,7 @@ impl FromStr for Kind {
 }
 
 impl Kind {
-    // The kind that a byte names, if any does.
+    // The kind that a byte names, if any does: `try_from` for callers that need no error.
     pub fn of_byte(b: u8) -> Option<Kind>
         ensures { KindOf b result }
     {
