@@ -12,7 +12,7 @@ use crate::triangle::pass_triangle;
 use crate::waiting::{RoutePart, put, put_all};
 use quoting::Areas;
 use rates::kind::Rate;
-use sheets::triangle_on;
+use sheets::Triangle;
 use stack::{Full, Stack};
 use stops::Stops;
 
@@ -37,7 +37,7 @@ fn unfold_next<R: Rate>(
 {
     let piece = areas.records.piece(part.piece);
     if piece.is_single() {
-        let t = triangle_on(areas.records.sides, areas.lanes, piece.top);
+        let t = Triangle::on(areas.records.sides, areas.lanes, piece.top);
         pass_triangle(t, part, stops);
         return Ok(());
     }

@@ -11,7 +11,7 @@ returns-then-is_single-clause-turn g c plan s t r left below room h =
       refl,
       triangle_turn g.R.Rate.kind g.met.R.Rate.laws plan.n plan.lanes a.records.sides.now a.records.pieces.now (map means a.lanes.now) (map means a.sheets.now)
           plan.best plan.rated s t r below means (part_of c.args.part) (parts_on c.args.todo.now) left c.args.stops.now
-          c.piece-piece.result c.piece-piece.ensures (c.is_single.ensures.0 c.if-is_single.true) c.triangle_on-t.result c.triangle_on-t.ensures
+          c.piece-piece.result c.piece-piece.ensures (c.is_single.ensures.0 c.if-is_single.true) c.on-t.result c.on-t.ensures
           c.pass_triangle.new.stops c.pass_triangle.ensures.passed h,
     )
 
