@@ -1,3 +1,4 @@
 pub mod Areas
 pub mod Climbs
 pub mod Places
+pub mod Walks

@@ -1,12 +1,10 @@
 // Ways down from a piece towards terminals.
 ghost use Rattle.std.specs.Prelude.{◌≡◌, ℕ, ◌+◌, ◌*◌, ◌<◌, Decides};
 ghost use Rattle.records.specs.Few.{Among, listed};
-ghost use Rattle.pieces.specs.Sides.{ends_of, Filled};
-ghost use Rattle.pieces.specs.Holding.{piece_at};
-ghost use Rattle.pieces.specs.Division.{Division};
-ghost use Rattle.piece_rates.specs.Touching.{Touches};
-ghost use Rattle.climbing.specs.Ways.{Begins, between, Ending, outside, Parts, towards};
+ghost use Rattle.pieces.specs.Sides.{ends_of};
+ghost use Rattle.climbing.specs.Ways.{between, Ending, outside, towards};
 ghost use Rattle.quoting.specs.Places.{common_child};
+ghost use Rattle.quoting.specs.Walks.{BeginsAt, DividedRing, PartsAt, TouchesAt};
 
 use crate::steps::places_of;
 use holders::{MOST_HOLDERS, Records};
@@ -61,7 +59,7 @@ fn common_child(records: Records<'_>, piece: Piece, u: u16, v: u16) -> Option<u1
 
 // On the way down from the piece p towards the terminal u, the first piece that has u as an edge terminal or is a single triangle.
 pub(crate) fn start_below(records: Records<'_>, p: u16, u: u16) -> u16
-    ensures { (n : ℕ) → Filled n (ends_of records.entry.sides.now) → Division n (ends_of records.entry.sides.now) records.entry.pieces.now → p + 5 < 2 * n → Touches n (ends_of records.entry.sides.now) (piece_at records.entry.pieces.now p) u → Begins n (ends_of records.entry.sides.now) records.entry.pieces.now p u result }
+    ensures { (n : ℕ) → DividedRing records.entry n → p + 5 < 2 * n → TouchesAt records.entry n p u → BeginsAt records.entry n p u result }
 {
     let mut q = p;
     for _ in 0..MOST_HOLDERS {
@@ -77,7 +75,7 @@ pub(crate) fn start_below(records: Records<'_>, p: u16, u: u16) -> u16
 // On the way down from the piece p towards both terminals, the first piece that has both as edge terminals, is a single triangle,
 // or is parted between them.
 pub(crate) fn parting_below(records: Records<'_>, p: u16, u: u16, v: u16) -> u16
-    ensures { (n : ℕ) → Filled n (ends_of records.entry.sides.now) → Division n (ends_of records.entry.sides.now) records.entry.pieces.now → p + 5 < 2 * n → Touches n (ends_of records.entry.sides.now) (piece_at records.entry.pieces.now p) u → Touches n (ends_of records.entry.sides.now) (piece_at records.entry.pieces.now p) v → Parts n (ends_of records.entry.sides.now) records.entry.pieces.now p u v result }
+    ensures { (n : ℕ) → DividedRing records.entry n → p + 5 < 2 * n → TouchesAt records.entry n p u → TouchesAt records.entry n p v → PartsAt records.entry n p u v result }
 {
     let mut q = p;
     for _ in 0..MOST_HOLDERS {

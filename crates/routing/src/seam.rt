@@ -14,6 +14,7 @@ pub enum Child {
 }
 
 impl Child {
+    // As `End::other`: two types, since a child and an end must not be mixed.
     pub(crate) fn other(self) -> Child
         ensures { is_first result ≡ not (is_first self) }
     {
@@ -32,6 +33,7 @@ pub enum End {
 }
 
 impl End {
+    // As `Child::other`.
     pub(crate) fn other(self) -> End
         ensures { is_low result ≡ not (is_low self) }
     {
