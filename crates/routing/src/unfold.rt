@@ -6,11 +6,10 @@ ghost use Rattle.routing.specs.Splits.{RatedPlan};
 ghost use Rattle.routing.specs.Turns.{TripUnderWay, TripWritten};
 ghost use Rattle.routing.specs.Waiting.{part_of, parts_on, room_on};
 
-use crate::seam::Seam;
 use crate::split::split;
 use crate::triangle::pass_triangle;
 use crate::waiting::{RoutePart, put, put_all};
-use quoting::Areas;
+use quoting::{Areas, Seam};
 use rates::kind::Rate;
 use sheets::Triangle;
 use stack::{Full, Stack};
