@@ -37,9 +37,7 @@ pub struct Seam {
 impl Seam {
     // That of a piece.
     pub fn of(records: Records<'_>, piece: Piece) -> Seam
-        ensures piece { result.piece ≡ piece }
-        ensures low { result.low ≡ (ends_of records.entry.sides.now).low piece.seam }
-        ensures high { result.high ≡ (ends_of records.entry.sides.now).high piece.seam }
+        ensures { result ≡ record { piece = piece; low = (ends_of records.entry.sides.now).low piece.seam; high = (ends_of records.entry.sides.now).high piece.seam } }
     {
         let side = records.side(piece.seam as u32);
         Seam {

@@ -40,13 +40,7 @@ fn unfold_next<R: Rate>(
         pass_triangle(t, part, stops);
         return Ok(());
     }
-    let side = areas.records.side(piece.seam as u32);
-    let seam = Seam {
-        piece,
-        low: side.low,
-        high: side.high,
-    };
-    let parts = split(areas, seam, part);
+    let parts = split(areas, Seam::of(areas.records, piece), part);
     put_all(todo, parts)
 }
 
