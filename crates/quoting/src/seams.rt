@@ -1,7 +1,6 @@
 // The seam of a cut piece, and on which side of it terminals lie.
 ghost use Rattle.std.specs.Prelude.{◌≡◌, ◌&&◌, if◌then◌else◌, not};
 ghost use Rattle.pieces.specs.Sides.{ends_of};
-ghost use Rattle.climbing.specs.Ways.{between, outside};
 ghost use Rattle.quoting.specs.Seams.{is_first, lies_in};
 
 use holders::Records;
