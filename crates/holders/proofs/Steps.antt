@@ -1,7 +1,7 @@
 -- Single steps of the walk up, on plain values.
 -- Assumes nothing.
-use Rattle.std.proofs.Common.{◌≡◌, ℕ, suc, ◌+◌, ◌*◌, ◌<◌, ◌≤◌, min, Bool, true, false, cond, ltb, List, [], ◌∷◌, ◌++◌, length, take, drop, set, Some, None, sym, refl, ap, ◌∙◌, subst, arith}
-use Rattle.std.proofs.lemmas.List.{take_more_set, append_assoc, drop-set-lt, drop-drop}
+use Rattle.std.proofs.Common.{◌≡◌, ℕ, suc, ◌+◌, ◌*◌, ◌<◌, ◌≤◌, min, Bool, true, false, cond, ltb, List, [], ◌∷◌, ◌++◌, length, take, drop, set, Some, None, sym, refl, ap, ◌∙◌, subst, arith, length-take}
+use Rattle.std.proofs.lemmas.List.{take_more_set, append_assoc, drop-set-lt, drop-drop, drop-append-le, take-append-drop}
 use Rattle.std.proofs.lemmas.Bool.{cond-true, cond-false, and_from, and_right, lt-ltb, le-ltb}
 use Rattle.records.specs.declared.Piece.{Piece}
 use Rattle.pieces.specs.Sides.{Ends, span, Filled}
@@ -48,6 +48,14 @@ module _ (ps : List Piece) (out : List ℕ) (k p : ℕ) (room : k < length out) 
 
   pub behind_more : (out₀ : List ℕ) → drop k out ≡ drop k out₀ → drop (k + 1) (set out k p) ≡ drop (k + 1) out₀
   behind_more out₀ e = drop-set-lt (k + 1) out k p (omega arith) ∙ sym (drop-drop 1 k out) ∙ ap (drop 1) e ∙ drop-drop 1 k out₀
+
+-- what was left of the front of an area, and the rest of it, is what was left of the area
+pub rejoined : (most k : ℕ) (out front : List ℕ) → most ≤ length out → length front ≡ most → k ≤ most → drop k front ≡ drop k (take most out) → drop k (front ++ drop most out) ≡ drop k out
+rejoined most k out front wide long l e =
+    drop-append-le k front (drop most out) (omega arith)
+    ∙ ap (λ v. v ++ drop most out) e
+    ∙ sym (drop-append-le k (take most out) (drop most out) (omega (arith, length-take most out)))
+    ∙ ap (drop k) (take-append-drop most out)
 
 -- what a walk over a division means
 pub walked_up : (ps : List Piece) (p : ℕ) (out : List ℕ) (r : ℕ) (out' : List ℕ) → Walked ps p out r out' → (n : ℕ) (e : Ends) → Division n e ps → 2 * n ≤ length ps + 5 → p + 5 < 2 * n → 41 ≤ length out → WayUp ps p (take r out')

@@ -31,9 +31,8 @@ pub fn way_up(pieces: &[Piece], from: u16, out: &mut [u16]) -> usize
 {
     let most = out.len().min(MOST_HOLDERS);
     let mut p = from;
-    // By index: the answer counts what is written, and of what is written through an adapter of `iter_mut` no proof knows anything.
-    for k in 0..most {
-        out[k] = p;
+    for (k, place) in out[..most].iter_mut().enumerate() {
+        *place = p;
         match parent_of(pieces, p) {
             Some(parent) => p = parent,
             None => return k + 1,

@@ -1,3 +1,5 @@
 pub mod Areas
 pub mod Climbs
 pub mod Places
+pub mod Seams
+pub mod Walks

@@ -11,7 +11,7 @@ ghost use Rattle.quoting.specs.Places.{cell_at, IsLineOf, shown, triangle_place_
 use crate::areas::Areas;
 use rates::kind::Rate;
 use records::Few;
-use sheets::{Triangle, leaf_entry, triangle_on};
+use sheets::Triangle;
 
 // Which way rates run: from the terminal of a line to edge terminals, or from these into the terminal.
 #[derive(Clone, Copy)]
@@ -87,8 +87,8 @@ fn triangle_rate<R: Rate>(t: Triangle<R>, direction: Direction, u: u16, v: u16) 
     ensures { LanesWithin R.kind (triangle_lanes R.kind R.means t) → R.means result ≡ turned (is_into direction) (triangle_best R.kind R.means t) u v }
 {
     match direction {
-        Direction::From => leaf_entry(t, u, v),
-        Direction::Into => leaf_entry(t, v, u),
+        Direction::From => t.best(u, v),
+        Direction::Into => t.best(v, u),
     }
 }
 
@@ -126,7 +126,7 @@ pub(crate) fn first_line<R: Rate>(
     match piece.edges.position(u) {
         Some(i) => sheet_line(areas, p, direction, i),
         None => {
-            let t = triangle_on(areas.records.sides, areas.lanes, piece.top);
+            let t = Triangle::on(areas.records.sides, areas.lanes, piece.top);
             triangle_line(t, piece.edges, direction, u)
         }
     }

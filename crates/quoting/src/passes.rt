@@ -13,7 +13,7 @@ use crate::walks::{child_towards, ends_there, parting_below};
 use holders::MOST_HOLDERS;
 use rates::kind::Rate;
 use rates::many::better_of_two;
-use sheets::{leaf_entry, triangle_on};
+use sheets::Triangle;
 
 // What is known of two terminals at a piece: the line of the first, the line into the second, and the best rate between them.
 #[derive(Clone, Copy)]
@@ -62,8 +62,8 @@ fn near_rate<R: Rate>(areas: Areas<'_, R>, p: u16, from: u16, to: u16) -> R
     match places_of(piece.edges, from, to) {
         Some((i, j)) => areas.cell(p, Direction::From, i, j),
         None => {
-            let t = triangle_on(areas.records.sides, areas.lanes, piece.top);
-            leaf_entry(t, from, to)
+            let t = Triangle::on(areas.records.sides, areas.lanes, piece.top);
+            t.best(from, to)
         }
     }
 }

@@ -1,17 +1,15 @@
 // Ways down from a piece towards terminals.
 ghost use Rattle.std.specs.Prelude.{◌≡◌, ℕ, ◌+◌, ◌*◌, ◌<◌, Decides};
 ghost use Rattle.records.specs.Few.{Among, listed};
-ghost use Rattle.pieces.specs.Sides.{ends_of, Filled};
-ghost use Rattle.pieces.specs.Holding.{piece_at};
-ghost use Rattle.pieces.specs.Division.{Division};
-ghost use Rattle.piece_rates.specs.Touching.{Touches};
-ghost use Rattle.climbing.specs.Ways.{Begins, between, Ending, outside, Parts, towards};
+ghost use Rattle.pieces.specs.Sides.{ends_of};
+ghost use Rattle.climbing.specs.Ways.{Ending, towards};
 ghost use Rattle.quoting.specs.Places.{common_child};
+ghost use Rattle.quoting.specs.Walks.{BeginsAt, DividedRing, PartsAt, TouchesAt};
 
+use crate::seams::{Child, Seam};
 use crate::steps::places_of;
 use holders::{MOST_HOLDERS, Records};
 use records::Piece;
-use ring::Side;
 
 // Whether a way down towards both terminals ends at the piece: both are its edge terminals, or it is a single triangle.
 pub(crate) fn ends_there(piece: Piece, u: u16, v: u16) -> bool
@@ -20,25 +18,11 @@ pub(crate) fn ends_there(piece: Piece, u: u16, v: u16) -> bool
     piece.is_single() || places_of(piece.edges, u, v).is_some()
 }
 
-// Whether u lies from one end of the seam to the other.
-fn lies_between(seam: Side, u: u16) -> bool
-    ensures { result ≡ between seam.low seam.high u }
-{
-    (seam.low <= u) & (u <= seam.high)
-}
-
-// Whether u does not lie strictly between the ends of the seam.
-fn lies_outside(seam: Side, u: u16) -> bool
-    ensures { result ≡ outside seam.low seam.high u }
-{
-    (u <= seam.low) | (seam.high <= u)
-}
-
 // The child of a cut piece that has the terminal u: the first, if u lies from one end of the seam to the other.
 pub(crate) fn child_towards(records: Records<'_>, piece: Piece, u: u16) -> u16
     ensures { result ≡ towards (ends_of records.entry.sides.now) piece u }
 {
-    if lies_between(records.side(piece.seam as u32), u) {
+    if Seam::of(records, piece).lies(Child::First, u) {
         piece.first
     } else {
         piece.second
@@ -49,10 +33,10 @@ pub(crate) fn child_towards(records: Records<'_>, piece: Piece, u: u16) -> u16
 fn common_child(records: Records<'_>, piece: Piece, u: u16, v: u16) -> Option<u16>
     ensures { result ≡ common_child (ends_of records.entry.sides.now) piece u v }
 {
-    let seam = records.side(piece.seam as u32);
-    if lies_between(seam, u) & lies_between(seam, v) {
+    let seam = Seam::of(records, piece);
+    if seam.both_lie(Child::First, u, v) {
         Some(piece.first)
-    } else if lies_outside(seam, u) & lies_outside(seam, v) {
+    } else if seam.both_lie(Child::Second, u, v) {
         Some(piece.second)
     } else {
         None
@@ -61,7 +45,7 @@ fn common_child(records: Records<'_>, piece: Piece, u: u16, v: u16) -> Option<u1
 
 // On the way down from the piece p towards the terminal u, the first piece that has u as an edge terminal or is a single triangle.
 pub(crate) fn start_below(records: Records<'_>, p: u16, u: u16) -> u16
-    ensures { (n : ℕ) → Filled n (ends_of records.entry.sides.now) → Division n (ends_of records.entry.sides.now) records.entry.pieces.now → p + 5 < 2 * n → Touches n (ends_of records.entry.sides.now) (piece_at records.entry.pieces.now p) u → Begins n (ends_of records.entry.sides.now) records.entry.pieces.now p u result }
+    ensures { (n : ℕ) → DividedRing records.entry n → p + 5 < 2 * n → TouchesAt records.entry n p u → BeginsAt records.entry n p u result }
 {
     let mut q = p;
     for _ in 0..MOST_HOLDERS {
@@ -77,7 +61,7 @@ pub(crate) fn start_below(records: Records<'_>, p: u16, u: u16) -> u16
 // On the way down from the piece p towards both terminals, the first piece that has both as edge terminals, is a single triangle,
 // or is parted between them.
 pub(crate) fn parting_below(records: Records<'_>, p: u16, u: u16, v: u16) -> u16
-    ensures { (n : ℕ) → Filled n (ends_of records.entry.sides.now) → Division n (ends_of records.entry.sides.now) records.entry.pieces.now → p + 5 < 2 * n → Touches n (ends_of records.entry.sides.now) (piece_at records.entry.pieces.now p) u → Touches n (ends_of records.entry.sides.now) (piece_at records.entry.pieces.now p) v → Parts n (ends_of records.entry.sides.now) records.entry.pieces.now p u v result }
+    ensures { (n : ℕ) → DividedRing records.entry n → p + 5 < 2 * n → TouchesAt records.entry n p u → TouchesAt records.entry n p v → PartsAt records.entry n p u v result }
 {
     let mut q = p;
     for _ in 0..MOST_HOLDERS {

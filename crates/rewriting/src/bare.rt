@@ -38,8 +38,8 @@ pub fn write_bare_sheets<R: Rate>(pieces: &[Piece], sheets: &mut [R])
     ensures shown { (n : ℕ) (e : Ends) (m : LaneMap R.Member) → NoLanes R.kind m → Division n e pieces.now → 2 * n ≤ length pieces.now + 5 → 64 * (2 * n) ≤ length sheets.old + 320 → AllShown R.kind n e pieces.now m (map R.means sheets.new) }
 {
     let most = pieces.len().min(sheets.len() / SHEET);
-    // By index: of what is written through `chunks_exact_mut` no proof knows anything.
-    for p in 0..most {
-        write_bare_sheet(pieces[p], &mut sheets[SHEET * p..SHEET * p + SHEET]);
+    // Sheets by index: when the loan of one by `chunks_exact_mut` ends, a proof knows its length and not its rates.
+    for (p, piece) in pieces[..most].iter().enumerate() {
+        write_bare_sheet(*piece, &mut sheets[SHEET * p..SHEET * p + SHEET]);
     }
 }

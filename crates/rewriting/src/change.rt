@@ -45,6 +45,7 @@ fn check_lane(
 
 // Gives a lane a rate, and makes the sheets of the pieces that hold the lane anew: how many they are.
 // Where the side, its lanes or the room is missing, nothing is written.
+// Sheets and work are two parameters: two areas lent by the fields of one lent struct cannot be passed on in one call.
 pub fn change_lane<R: Rate>(
     records: Records,
     lanes: &mut [R],

@@ -65,6 +65,7 @@ fn put_sheet<R: Rate>(work: &[R], p: u16, sheets: &mut [R])
 }
 
 // Makes the sheet of the piece p anew.
+// Sheets and work are two parameters: two areas lent by the fields of one lent struct cannot be passed on in one call.
 pub(crate) fn rewrite_sheet<R: Rate>(
     records: Records,
     lanes: &[R],

@@ -26,6 +26,7 @@ pub(crate) fn check_sheet(sheets: usize, work: usize, p: u16) -> Result<(), NoRo
 
 // Makes the sheets of the piece `from` and of those above it anew, each from the sheets of its parts, and says how many they are.
 // Without room for 64 work rates and for the sheet of `from` nothing is written.
+// Sheets and work are two parameters: two areas lent by the fields of one lent struct cannot be passed on in one call.
 pub fn rewrite_up<R: Rate>(
     records: Records,
     lanes: &[R],
@@ -40,6 +41,7 @@ pub fn rewrite_up<R: Rate>(
 {
     check_sheet(sheets.len(), work.len(), from)?;
     let mut p = from;
+    // By number: there is nothing to go over, and k is only how many sheets were made anew.
     for k in 0..MOST_HOLDERS {
         rewrite_sheet(records, lanes, sheets, work, p);
         match parent_of(records.pieces, p) {

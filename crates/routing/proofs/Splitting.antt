@@ -15,15 +15,16 @@ use Rattle.quoting.specs.declared.areas.Areas.{Areas}
 use Rattle.quoting.specs.Areas.{ends, piece_of}
 use Rattle.unfolding.specs.Parts.{Part, kept, lies, both_lie, together, home, child, part_rate, round_rate, across_rate, split_at, split_together, split_across, round_parts, across_parts, child_part, child_rate}
 use Rattle.unfolding.proofs.Splits.{child_range, seam_touches, touches_child}
-use Rattle.routing.specs.declared.seam.Child.{Child}
-use Rattle.routing.specs.declared.seam.Seam.{Seam}
+use Rattle.quoting.specs.declared.seams.Child.{Child}
+use Rattle.quoting.specs.declared.seams.Seam.{Seam}
 use Rattle.routing.specs.declared.seam.Lie.TheVariants.{Together, Apart}
 use Rattle.routing.specs.declared.split.SeamPart.{SeamPart}
 use Rattle.routing.specs.declared.split.Way.{Way}
 use Rattle.routing.specs.declared.waiting.RoutePart.{RoutePart}
 use Rattle.routing.specs.declared.waiting.Parts.{Parts}
 use Rattle.routing.specs.declared.waiting.Parts.TheVariants.{Within as WithinParts, Across as AcrossParts, Round as RoundParts}
-use Rattle.routing.specs.Seams.{is_first, LiesAs}
+use Rattle.quoting.specs.Seams.{is_first}
+use Rattle.routing.specs.Seams.{LiesAs}
 use Rattle.routing.specs.Splits.{PartRate, RatedPlan, PartTouches, IsSeamOf, TouchesSeam, TouchesChild, IsWay, BothInChild, EndsApart, Within, Round, Across}
 use Rattle.routing.specs.Waiting.{kept_all, part_of}
 

@@ -1,17 +1,12 @@
--- The children of a cut piece, the ends of its seam, and how two terminals lie beside it.
+-- The ends of the seam of a cut piece, and how two terminals lie beside it.
 -- Assumes the terms of `unfolding`, where a child and an end are a Bool each: true for the first child and for the low end.
 use Rattle.std.specs.Prelude.{◌≡◌, ℕ, Bool, true, false}
 use Rattle.unfolding.specs.Parts.{together, home}
-use Rattle.routing.specs.declared.seam.Child.{Child}
-use Rattle.routing.specs.declared.seam.Child.TheVariants.{First, Second}
+use Rattle.quoting.specs.Seams.{is_first}
 use Rattle.routing.specs.declared.seam.End.{End}
 use Rattle.routing.specs.declared.seam.End.TheVariants.{Low, High}
 use Rattle.routing.specs.declared.seam.Lie.{Lie}
 use Rattle.routing.specs.declared.seam.Lie.TheVariants.{Together, Apart}
-
-abbrev pub is_first : Child → Bool
-is_first First = true
-is_first Second = false
 
 abbrev pub is_low : End → Bool
 is_low Low = true

@@ -13,12 +13,12 @@ use Rattle.quoting.specs.declared.areas.Areas.{Areas}
 use Rattle.quoting.specs.Areas.{ends, TouchesPiece}
 use Rattle.unfolding.specs.Parts.{Part, kept, part_rate, child, child_part, child_rate, across_rate, across_parts, round_rate, round_parts, split_across, split_at, split_together}
 use Rattle.unfolding.specs.Splitting.{Cut, Rated}
-use Rattle.routing.specs.declared.seam.Seam.{Seam}
+use Rattle.quoting.specs.declared.seams.Seam.{Seam}
 use Rattle.routing.specs.declared.split.SeamPart.{SeamPart}
 use Rattle.routing.specs.declared.split.Way.{Way}
 use Rattle.routing.specs.declared.waiting.Parts.{Parts}
 use Rattle.routing.specs.declared.waiting.RoutePart.{RoutePart}
-use Rattle.routing.specs.Seams.{is_first}
+use Rattle.quoting.specs.Seams.{is_first}
 use Rattle.routing.specs.Waiting.{kept_all}
 
 -- u is a terminal of a child of P

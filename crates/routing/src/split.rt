@@ -1,13 +1,15 @@
 // A part of a cut piece, split at the seam into parts of its two children.
 ghost use Rattle.std.specs.Prelude.{◌≡◌, if◌then◌else◌};
+ghost use Rattle.piece_rates.specs.Climbing.{seam_ends};
 ghost use Rattle.unfolding.specs.Parts.{child};
-ghost use Rattle.routing.specs.Seams.{is_first, is_low};
+ghost use Rattle.quoting.specs.Seams.{is_first};
+ghost use Rattle.routing.specs.Seams.{is_low};
 ghost use Rattle.routing.specs.Splits.{Across, BothInChild, EndsApart, IsSeamOf, PartRate, PartTouches, RatedPlan, Round, SplitAcross, SplitAt, SplitTogether, TouchesSeam, Within};
 ghost use Rattle.routing.specs.Waiting.{part_of};
 
-use crate::seam::{Child, End, Lie, Seam};
+use crate::seam::{End, Lie};
 use crate::waiting::{Parts, RoutePart};
-use quoting::{Areas, best_within};
+use quoting::{Areas, Child, Seam, best_within};
 use rates::kind::Rate;
 
 // A way to split a part: the parts, and their rates joined.
@@ -46,25 +48,33 @@ impl<R: Rate> Way<R> {
     }
 }
 
-impl Seam {
+impl<R: Rate> SeamPart<'_, R> {
+    // An end of its seam.
+    fn end(self, end: End) -> u16
+        ensures { result ≡ seam_ends self.entry.seam.low self.entry.seam.high (is_low end) }
+    {
+        match end {
+            End::Low => self.seam.low,
+            End::High => self.seam.high,
+        }
+    }
+
     // A part of a child.
     fn part_in(self, which: Child, from: u16, to: u16) -> RoutePart
-        ensures { result ≡ record { piece = child self.piece (is_first which); from = from; to = to } }
+        ensures { result ≡ record { piece = child self.entry.seam.piece (is_first which); from = from; to = to } }
     {
         RoutePart {
-            piece: self.child(which),
+            piece: self.seam.child(which),
             from,
             to,
         }
     }
-}
 
-impl<R: Rate> SeamPart<'_, R> {
     // Both terminals lie in the child: within it.
     fn within(self) -> Way<R>
         ensures { (plan : RatedPlan R.kind R.means self.entry.areas) → BothInChild self.entry plan → Within self.entry plan result }
     {
-        let only = self.seam.part_in(self.child, self.part.from, self.part.to);
+        let only = self.part_in(self.child, self.part.from, self.part.to);
         Way {
             parts: Parts::Within(only),
             rate: part_rate(self.areas, only),
@@ -75,11 +85,11 @@ impl<R: Rate> SeamPart<'_, R> {
     fn round(self, end: End) -> Way<R>
         ensures { (plan : RatedPlan R.kind R.means self.entry.areas) → BothInChild self.entry plan → Round self.entry plan (is_low end) result }
     {
-        let near = self.seam.end(end);
-        let far = self.seam.end(end.other());
-        let out = self.seam.part_in(self.child, self.part.from, near);
-        let across = self.seam.part_in(self.child.other(), near, far);
-        let back = self.seam.part_in(self.child, far, self.part.to);
+        let near = self.end(end);
+        let far = self.end(end.other());
+        let out = self.part_in(self.child, self.part.from, near);
+        let across = self.part_in(self.child.other(), near, far);
+        let back = self.part_in(self.child, far, self.part.to);
         let rate = part_rate(self.areas, out).join(part_rate(self.areas, across));
         Way {
             parts: Parts::Round(out, across, back),
@@ -91,9 +101,9 @@ impl<R: Rate> SeamPart<'_, R> {
     fn across(self, end: End) -> Way<R>
         ensures { (plan : RatedPlan R.kind R.means self.entry.areas) → EndsApart self.entry plan → Across self.entry plan (is_low end) result }
     {
-        let end = self.seam.end(end);
-        let first = self.seam.part_in(self.child, self.part.from, end);
-        let last = self.seam.part_in(self.child.other(), end, self.part.to);
+        let end = self.end(end);
+        let first = self.part_in(self.child, self.part.from, end);
+        let last = self.part_in(self.child.other(), end, self.part.to);
         Way {
             parts: Parts::Across(first, last),
             rate: part_rate(self.areas, first).join(part_rate(self.areas, last)),
@@ -122,7 +132,7 @@ impl<R: Rate> SeamPart<'_, R> {
 pub(crate) fn split<R: Rate>(areas: Areas<'_, R>, seam: Seam, part: RoutePart) -> Parts
     ensures { (plan : RatedPlan R.kind R.means areas.entry) → IsSeamOf plan seam → TouchesSeam plan seam part.from → TouchesSeam plan seam part.to → SplitAt plan seam part result }
 {
-    match seam.lie(part.from, part.to) {
+    match Lie::of(seam, part.from, part.to) {
         Lie::Together(child) => SeamPart {
             areas,
             seam,

@@ -6,7 +6,7 @@ ghost use Rattle.routing.specs.Passes.{PassedAll, stops_within};
 
 use crate::waiting::RoutePart;
 use rates::kind::Rate;
-use sheets::{Triangle, lane_of, other_corner};
+use sheets::Triangle;
 use stops::Stops;
 
 // Passes the end of the part, by the third corner where that is better than the lane.
@@ -14,9 +14,9 @@ pub(crate) fn pass_triangle<R: Rate>(t: Triangle<R>, part: RoutePart, stops: &mu
     ensures passed { LanesWithin R.kind (triangle_lanes R.kind R.means t) → PassedAll stops.old (stops_within R.kind R.means t part.from part.to) stops.new }
     ensures held { stops.new.places.ghost_name ≡ stops.old.places.ghost_name }
 {
-    let third = other_corner(t.low, t.third, t.high, part.from, part.to);
-    let round = lane_of(t, part.from, third).join(lane_of(t, third, part.to));
-    if round.better(lane_of(t, part.from, part.to)) {
+    let third = t.other_corner(part.from, part.to);
+    let round = t.lane(part.from, third).join(t.lane(third, part.to));
+    if round.better(t.lane(part.from, part.to)) {
         stops.pass(third);
     }
     stops.pass(part.to);

@@ -6,13 +6,12 @@ ghost use Rattle.routing.specs.Splits.{RatedPlan};
 ghost use Rattle.routing.specs.Turns.{TripUnderWay, TripWritten};
 ghost use Rattle.routing.specs.Waiting.{part_of, parts_on, room_on};
 
-use crate::seam::Seam;
 use crate::split::split;
 use crate::triangle::pass_triangle;
 use crate::waiting::{RoutePart, put, put_all};
-use quoting::Areas;
+use quoting::{Areas, Seam};
 use rates::kind::Rate;
-use sheets::triangle_on;
+use sheets::Triangle;
 use stack::{Full, Stack};
 use stops::Stops;
 
@@ -37,17 +36,11 @@ fn unfold_next<R: Rate>(
 {
     let piece = areas.records.piece(part.piece);
     if piece.is_single() {
-        let t = triangle_on(areas.records.sides, areas.lanes, piece.top);
+        let t = Triangle::on(areas.records.sides, areas.lanes, piece.top);
         pass_triangle(t, part, stops);
         return Ok(());
     }
-    let side = areas.records.side(piece.seam as u32);
-    let seam = Seam {
-        piece,
-        low: side.low,
-        high: side.high,
-    };
-    let parts = split(areas, seam, part);
+    let parts = split(areas, Seam::of(areas.records, piece), part);
     put_all(todo, parts)
 }
 

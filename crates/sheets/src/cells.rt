@@ -41,9 +41,8 @@ pub fn write_each<R: Copy, F: Fn(usize) -> R>(area: &mut [R], f: F)
     requires { (k : ℕ) → k < length area.old → F.pre f k }
     ensures { EachPlace (F.post f) area.new }
 {
-    // By index: of what is written through `iter_mut().enumerate()` no proof knows anything.
-    for k in 0..area.len() {
-        area[k] = f(k);
+    for (k, place) in area.iter_mut().enumerate() {
+        *place = f(k);
     }
 }
 

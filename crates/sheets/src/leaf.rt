@@ -1,5 +1,5 @@
 // The sheet of a piece of one triangle, from its lanes.
-ghost use Rattle.std.specs.Prelude.{◌≡◌, ℕ, ◌+◌, ◌*◌, ◌/◌, ◌%◌, ◌<◌, ◌≤◌, cond, ◌&&◌, List, map, length, drop};
+ghost use Rattle.std.specs.Prelude.{◌≡◌, ℕ, ◌+◌, ◌*◌, ◌/◌, ◌%◌, ◌<◌, ◌≤◌, true, ◌==◌, cond, ◌&&◌, List, map, length, drop};
 ghost use Rattle.trips.specs.Trips.{LaneMap};
 ghost use Rattle.records.specs.Few.{listed};
 ghost use Rattle.pieces.specs.Sides.{Ends, ends_of};
@@ -32,40 +32,31 @@ pub struct Triangle<R> {
     pub base: Both<R>,
 }
 
-// The lanes of a side; none where they are not counted.
-fn both_at<R: Rate>(lanes: &[R], side: u32, counted: bool) -> Both<R>
-    ensures up { R.means result.up ≡ rate_if R.kind counted (map R.means lanes.now) (2 * side) }
-    ensures down { R.means result.down ≡ rate_if R.kind counted (map R.means lanes.now) (2 * side + 1) }
-{
-    if counted {
+impl<R: Rate> Both<R> {
+    // The lanes of a side.
+    fn of(lanes: &[R], side: u32) -> Both<R>
+        ensures up { R.means result.up ≡ rate_if R.kind true (map R.means lanes.now) (2 * side) }
+        ensures down { R.means result.down ≡ rate_if R.kind true (map R.means lanes.now) (2 * side + 1) }
+    {
         Both {
             up: rate_at(lanes, 2 * side as usize),
             down: rate_at(lanes, 2 * side as usize + 1),
         }
-    } else {
-        Both {
-            up: R::none(),
-            down: R::none(),
-        }
     }
-}
 
-// The triangle on a base. The lanes of its other two sides belong to it where they have length 1.
-pub fn triangle_on<R: Rate>(sides: &[Side], lanes: &[R], base: u16) -> Triangle<R>
-    ensures { IsTriangleOn R.kind R.means (ends_of sides.now) base (map R.means lanes.now) result }
-{
-    let top = side_at(sides, base as u32);
-    let left = side_at(sides, base as u32 + 1);
-    let length = left.high.saturating_sub(left.low);
-    let place = base as u32 + 2 * length as u32;
-    let right = side_at(sides, place);
-    Triangle {
-        low: top.low,
-        third: left.high,
-        high: top.high,
-        left: both_at(lanes, base as u32 + 1, length == 1),
-        right: both_at(lanes, place, right.high.saturating_sub(right.low) == 1),
-        base: both_at(lanes, base as u32, true),
+    // The lanes of a side of this length that belong to a triangle on another side: those of length 1, and else none.
+    fn of_short(lanes: &[R], side: u32, length: u16) -> Both<R>
+        ensures up { R.means result.up ≡ rate_if R.kind (length == 1) (map R.means lanes.now) (2 * side) }
+        ensures down { R.means result.down ≡ rate_if R.kind (length == 1) (map R.means lanes.now) (2 * side + 1) }
+    {
+        if length == 1 {
+            Both::of(lanes, side)
+        } else {
+            Both {
+                up: R::none(),
+                down: R::none(),
+            }
+        }
     }
 }
 
@@ -82,37 +73,58 @@ fn rate_along<R: Rate>(a: u16, b: u16, both: Both<R>, u: u16, v: u16, others: R)
     }
 }
 
-// The rate of the triangle's lane from u to v.
-pub fn lane_of<R: Rate>(t: Triangle<R>, u: u16, v: u16) -> R
-    ensures { R.means result ≡ triangle_lanes R.kind R.means t u v }
-{
-    let base = rate_along(t.low, t.high, t.base, u, v, R::none());
-    let right = rate_along(t.third, t.high, t.right, u, v, base);
-    rate_along(t.low, t.third, t.left, u, v, right)
-}
-
-// The first corner that is neither u nor v.
-pub fn other_corner(a: u16, b: u16, c: u16, u: u16, v: u16) -> u16
-    ensures { result ≡ third_corner a b c u v }
-{
-    if (a != u) & (a != v) {
-        a
-    } else if (b != u) & (b != v) {
-        b
-    } else {
-        c
+impl<R: Rate> Triangle<R> {
+    // The triangle on a base. The lanes of its other two sides belong to it where they have length 1.
+    pub fn on(sides: &[Side], lanes: &[R], base: u16) -> Triangle<R>
+        ensures { IsTriangleOn R.kind R.means (ends_of sides.now) base (map R.means lanes.now) result }
+    {
+        let top = side_at(sides, base as u32);
+        let left = side_at(sides, base as u32 + 1);
+        let length = left.high.saturating_sub(left.low);
+        let place = base as u32 + 2 * length as u32;
+        let right = side_at(sides, place);
+        Triangle {
+            low: top.low,
+            third: left.high,
+            high: top.high,
+            left: Both::of_short(lanes, base as u32 + 1, length),
+            right: Both::of_short(lanes, place, right.high.saturating_sub(right.low)),
+            base: Both::of(lanes, base as u32),
+        }
     }
-}
 
-// The best rate from u to v within the triangle.
-pub fn leaf_entry<R: Rate>(t: Triangle<R>, u: u16, v: u16) -> R
-    ensures { LanesWithin R.kind (triangle_lanes R.kind R.means t) → R.means result ≡ triangle_best R.kind R.means t u v }
-{
-    if u == v {
-        return R::still();
+    // The rate of its lane from u to v.
+    pub fn lane(self, u: u16, v: u16) -> R
+        ensures { R.means result ≡ triangle_lanes R.kind R.means self u v }
+    {
+        let base = rate_along(self.low, self.high, self.base, u, v, R::none());
+        let right = rate_along(self.third, self.high, self.right, u, v, base);
+        rate_along(self.low, self.third, self.left, u, v, right)
     }
-    let third = other_corner(t.low, t.third, t.high, u, v);
-    better_joined(lane_of(t, u, v), lane_of(t, u, third), lane_of(t, third, v))
+
+    // Its first corner that is neither u nor v.
+    pub fn other_corner(self, u: u16, v: u16) -> u16
+        ensures { result ≡ third_corner self.low self.third self.high u v }
+    {
+        if (self.low != u) & (self.low != v) {
+            self.low
+        } else if (self.third != u) & (self.third != v) {
+            self.third
+        } else {
+            self.high
+        }
+    }
+
+    // The best rate from u to v within it.
+    pub fn best(self, u: u16, v: u16) -> R
+        ensures { LanesWithin R.kind (triangle_lanes R.kind R.means self) → R.means result ≡ triangle_best R.kind R.means self u v }
+    {
+        if u == v {
+            return R::still();
+        }
+        let third = self.other_corner(u, v);
+        better_joined(self.lane(u, v), self.lane(u, third), self.lane(third, v))
+    }
 }
 
 // The place k of the sheet: none at an unused one.
@@ -121,7 +133,7 @@ fn leaf_at<R: Rate>(t: Triangle<R>, edges: Few, count: usize, k: usize) -> R
     ensures { LanesWithin R.kind (triangle_lanes R.kind R.means t) → R.means result ≡ triangle_place R.kind R.means t (listed edges) k }
 {
     if (k / ROW < count) & (k % ROW < count) {
-        leaf_entry(t, edges.get(k / ROW), edges.get(k % ROW))
+        t.best(edges.get(k / ROW), edges.get(k % ROW))
     } else {
         R::none()
     }
@@ -136,7 +148,7 @@ pub fn write_leaf<R: Rate>(sides: &[Side], lanes: &[R], piece: Piece, sheet: &mu
     if sheet.len() < SHEET {
         return;
     }
-    let t = triangle_on(sides, lanes, piece.top);
+    let t = Triangle::on(sides, lanes, piece.top);
     let count = piece.edges.len();
     write_each(&mut sheet[..SHEET], |k| leaf_at(t, piece.edges, count, k));
 }

@@ -7,5 +7,5 @@ mod parent;
 
 pub use cells::{ROW, SHEET, better_joined, clear_rates, rate_at, write_each};
 pub use holders::{piece_at, side_at};
-pub use leaf::{Both, Triangle, lane_of, leaf_entry, other_corner, triangle_on, write_leaf};
+pub use leaf::{Both, Triangle, write_leaf};
 pub use parent::{Cut, place_of, write_parent};

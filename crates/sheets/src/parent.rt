@@ -187,7 +187,7 @@ pub fn write_parent<R: Rate>(cut: Cut, a: &[R], b: &[R], sheet: &mut [R])
         part: part_of(cut, cut.second.edges),
     };
     let count = cut.piece.edges.len();
-    // By index: of what is written through `chunks_exact_mut` no proof knows anything.
+    // By index: `chunks_exact_mut(ROW).enumerate()` was tried; when the loan of a row ends, a proof knows its length and not its rates.
     for i in 0..ROW {
         parent_row(first, second, count, i, &mut sheet[ROW * i..ROW * i + ROW]);
     }

@@ -9,4 +9,4 @@ returns-in-Some g c n m h l begins =
 pub returns-in-None : goal.returns-in-None
 returns-in-None g c n m h l begins =
     first_triangle g.R.Rate.kind g.met.R.Rate.laws g.R.Rate.means c.args.areas n m h c.args.p c.piece-piece.result c.piece-piece.ensures l
-    c.triangle_on-t.result c.triangle_on-t.ensures c.args.direction c.args.u c.triangle_line.result begins c.in-None.ensures c.triangle_line.ensures
+    c.on-t.result c.on-t.ensures c.args.direction c.args.u c.triangle_line.result begins c.in-None.ensures c.triangle_line.ensures

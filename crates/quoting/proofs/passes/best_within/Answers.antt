@@ -11,10 +11,10 @@ returns-then-from-to g c n m h l tu tv =
 
 pub returns-then-ends_there : goal.returns-then-ends_there
 returns-then-ends_there g c n m h l tu tv =
-    c.joined_rate.ensures n m h (c.parting_below-p.ensures n h.stands.filled h.stands.division l tu tv)
+    c.joined_rate.ensures n m h (c.parting_below-p.ensures n (h.stands.filled, h.stands.division) l tu tv)
     (subst (λ x. Ending x c.args.from c.args.to) c.piece.ensures (c.ends_there.ensures.0 c.if-ends_there.true))
 
 pub returns-else-ends_there : goal.returns-else-ends_there
 returns-else-ends_there g c n m h l tu tv =
-    c.parted_rate.ensures n m h (c.parting_below-p.ensures n h.stands.filled h.stands.division l tu tv)
+    c.parted_rate.ensures n m h (c.parting_below-p.ensures n (h.stands.filled, h.stands.division) l tu tv)
     (λ e. denied c.ends_there.ensures c.if-ends_there.false (subst (λ x. Ending x c.args.from c.args.to) (sym c.piece.ensures) e))

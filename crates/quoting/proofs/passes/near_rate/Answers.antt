@@ -9,4 +9,4 @@ returns-in-Some g c n m h l ends =
 pub returns-in-None : goal.returns-in-None
 returns-in-None g c n m h l ends =
     near_triangle g.R.Rate.kind g.met.R.Rate.laws g.R.Rate.means c.args.areas n m h c.args.p c.piece-piece.result c.piece-piece.ensures l
-    c.triangle_on-t.result c.triangle_on-t.ensures c.args.from c.args.to c.leaf_entry.result ends c.in-None.ensures c.leaf_entry.ensures
+    c.on-t.result c.on-t.ensures c.args.from c.args.to c.best.result ends c.in-None.ensures c.best.ensures

@@ -1,4 +1,5 @@
-use Rattle.routing.specs.Seams.{is_first, is_low}
+use Rattle.quoting.specs.Seams.{is_first}
+use Rattle.routing.specs.Seams.{is_low}
 use Rattle.routing.proofs.Splitting.{across_is}
 use Rattle.routing.proofs.split.SeamPart.across.Goals as goal
 
