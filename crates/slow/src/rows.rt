@@ -46,10 +46,7 @@ fn relax_from<R: Rate>(base: R, out: &[R], row: &mut [R]) -> bool
 fn clear<R: Rate>(row: &mut [R])
     ensures { (w : ℕ) → member_at R.kind (map R.means row.new) w ≡ R.kind.none }
 {
-    // Not by `fill`, which asks for a clone that cannot fail: the bound does not say so of a rate.
-    for place in row.iter_mut() {
-        *place = R::none();
-    }
+    row.fill_with(|| R::none());
 }
 
 // The lanes of a network of n terminals: the rate of the one from u to v stands at the place n * u + v,
