@@ -12,7 +12,7 @@ returns g c =
     let written = c.in_ok-resize_with.ensures.items in
     let long : length c.resize_with.new.self.items ≡ c.args.n * c.args.n = omega (arith, c.in_ok-resize_with.ensures.len) in
     let fresh : c.resize_with.new.self.items ≡ written.0 =
-        written.2 ∙ ap (λ list. take (c.args.n * c.args.n) list ++ written.0) c.new-area.ensures.items ∙ ap (λ list. list ++ written.0) (take-nil (c.args.n * c.args.n)) in
+    written.2 ∙ ap (λ list. take (c.args.n * c.args.n) list ++ written.0) c.new-area.ensures.items ∙ ap (λ list. list ++ written.0) (take-nil (c.args.n * c.args.n)) in
     record {
       square = λ few. length-map c.resize_with.new.self.items m ∙ long;
       empty = λ many. absurd (omega arith);
