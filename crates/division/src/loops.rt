@@ -50,9 +50,9 @@ pub fn cut_pieces(
 {
     let mut waiting = Stack::new(todo);
     waiting.push(whole())?;
-    // By number: a record's number stands in its parts, and of `iter_mut` with an adapter no proof knows what was written.
-    for p in 0..count {
-        pieces[p as usize] = cut_next(sides, p, &mut waiting)?;
+    let records = &mut pieces[..count as usize];
+    for (p, record) in records.iter_mut().enumerate() {
+        *record = cut_next(sides, p as u16, &mut waiting)?;
     }
     Ok(())
 }

@@ -34,6 +34,7 @@ fn shuffle(links: &mut [Link]) {
 }
 
 // The links of the shape that is wished for.
+// plan_text makes the same for its texts, in a private function: to share it, the bench would have to stand on the texts too.
 fn make_links(heap: Global, wish: Wish) -> Result<Vec<Link>, AllocError> {
     let count = match wish.shape {
         Shape::Bare => 0,

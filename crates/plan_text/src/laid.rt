@@ -94,6 +94,7 @@ fn holder_count(side: Side, pieces: &[Piece]) -> usize
     ensures at_most { result ≤ 41 }
     ensures way { result ≡ way_length pieces.now side.leaf }
 {
+    // The numbers go unread: `way_up` writes them into a lent array, since it allocates nothing.
     let mut numbers = [0u16; MOST_HOLDERS];
     way_up(pieces, side.leaf, &mut numbers)
 }

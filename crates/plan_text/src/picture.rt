@@ -9,6 +9,8 @@ use records::Piece;
 use ring::Side;
 use std::alloc::AllocError;
 
+// The number of terminals is a parameter of six functions here: a struct of this number alone would be no shorter.
+
 // Angles are counted in tenths of a degree; half a turn has 1,800.
 const HALF_TURN: usize = 1800;
 

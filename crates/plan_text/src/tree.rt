@@ -9,6 +9,8 @@ use records::Piece;
 use ring::{Link, PlanFault, Side};
 use std::alloc::AllocError;
 
+// The text and the sides are parameters of five functions here: a struct of these two borrows would be no shorter.
+
 // Writes the ends of the side i.
 fn write_ends(text: &mut String, sides: &[Side], i: u16) -> Result<(), AllocError>
     ensures { OnOk result (GrownBy text.old text.new (ends_text sides.now i)) }

@@ -1,5 +1,6 @@
 pub mod Places
 pub mod Checking
+pub mod Clearing
 pub mod LaneMaps
 pub mod Relaxing
 pub mod Sweeping

@@ -5,7 +5,7 @@ use borrow.Rule.Slice.PartMut.{put_mid, post_of}
 use Rattle.std.specs.List.{between}
 use Rattle.std.proofs.lemmas.Nat.{mul-le}
 use Rattle.std.proofs.lemmas.List.Edits.{get_or-between}
-use Rattle.std.proofs.lemmas.List.{get_or-map, map-set, map-append, take-map, drop-map, length-map, length-take, get_or-set_same, get_or-set_other, get_or_past, get_or-take, get_or_append_left, get_or-append_right}
+use Rattle.std.proofs.lemmas.List.{get_or-map, map-set, map-append, take-map, drop-map, length-map, length-take, get_or-set_same, get_or-set_other, get_or-take, get_or_append_left, get_or-append_right}
 use Rattle.rates.specs.Kinds.{Kind}
 use Rattle.slow.specs.Areas.{at}
 
@@ -21,9 +21,6 @@ module _ {M : Type 0} (K : Kind M) {V : Type 0} (means : V → M) where
   pub set_others : (vs : List V) (i : ℕ) (v : V) (w : ℕ) → (w ≡ i → ⊥) → at K (map means (set vs i v)) w ≡ at K (map means vs) w
   set_others vs i v w n =
       ap (λ list. at K list w) (map-set means vs i v) ∙ get_or-set_other (map means vs) i w (means v) K.none n
-
-  pub past_end : (vs : List V) (k : ℕ) → length vs ≤ k → at K (map means vs) k ≡ K.none
-  past_end vs k l = get_or_past (map means vs) k K.none (rw length-map l)
 
   -- a row of an area, as a part of its slice
   pub row_reads : (vs : List V) (a n w : ℕ) → w < n → at K (map means (between a (a + n) vs)) w ≡ at K (map means vs) (a + w)

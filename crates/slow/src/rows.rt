@@ -46,10 +46,7 @@ fn relax_from<R: Rate>(base: R, out: &[R], row: &mut [R]) -> bool
 fn clear<R: Rate>(row: &mut [R])
     ensures { (w : ℕ) → member_at R.kind (map R.means row.new) w ≡ R.kind.none }
 {
-    // Not by `fill`, which asks for a clone that cannot fail: the bound does not say so of a rate.
-    for place in row.iter_mut() {
-        *place = R::none();
-    }
+    row.fill_with(|| R::none());
 }
 
 // The lanes of a network of n terminals: the rate of the one from u to v stands at the place n * u + v,
@@ -84,7 +81,7 @@ impl<'a, R: Rate> Lanes<'a, R> {
     {
         let n = self.n;
         let mut changed = false;
-        // By number, since the row is written while its places are read.
+        // By number: tried with `chunks_exact` and `enumerate`, but std has no lemma on which part of the area a run is.
         for v in 0..n {
             let base = row[v];
             changed |= relax_from(base, &self.rates[n * v..n * v + n], row);
@@ -121,7 +118,7 @@ impl<'a, R: Rate> Lanes<'a, R> {
         ensures { RowsFound R.kind (lane_map R.kind self.now.n (map R.means self.now.rates.now)) self.now.n self.now.n (entry_at R.kind self.now.n (map R.means table.new)) }
     {
         let n = self.n;
-        // By indices, since of rows lent by `chunks_exact_mut` a proof knows the lengths alone.
+        // By number: tried with `chunks_exact_mut` and `enumerate`, but of what is written to the rows that it lends a proof knows nothing.
         for u in 0..n {
             self.find_row(u, &mut table[n * u..n * u + n]);
         }

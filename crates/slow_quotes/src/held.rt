@@ -25,11 +25,10 @@ fn empty_area<R: Rate>(heap: Global, n: usize) -> Result<Vec<R>, AllocError>
     ensures { IfOk result (λ area. EmptyArea R.kind n (map R.means area.items)) }
 {
     let mut area = Vec::new(heap);
-    if n <= MOST_TERMINALS {
-        for _ in 0..n * n {
-            area.push(R::none())?;
-        }
+    if n > MOST_TERMINALS {
+        return Ok(area);
     }
+    area.resize_with(n * n, || R::none())?;
     Ok(area)
 }
 

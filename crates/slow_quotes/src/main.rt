@@ -16,7 +16,8 @@ fn run(rt: &HostRuntime) -> io::Result<()> {
     let heap = rt.alloc();
     let mut kind = None;
     let mut lines = Vec::new(heap);
-    for (before, text) in BufReader::new(heap, rt.stdin())?.lines(heap).enumerate() {
+    let texts = BufReader::new(heap, rt.stdin())?.lines(heap);
+    for (text, number) in texts.zip(1usize..usize::MAX) {
         let text = text?;
         match text.as_str().parse::<KindName>() {
             Ok(named) => {
@@ -26,10 +27,7 @@ fn run(rt: &HostRuntime) -> io::Result<()> {
                 lines.clear();
                 kind = Some(named);
             }
-            Err(_) => lines.push(Line {
-                number: before.saturating_add(1),
-                text,
-            })?,
+            Err(_) => lines.push(Line { number, text })?,
         }
     }
     rt.print(told(heap, kind, lines.as_slice())?.as_str())

@@ -24,6 +24,7 @@ pub enum Order<R> {
 fn named<R: Written>(words: FewWords<'_>) -> Option<Order<R>>
     ensures { (ws : List (List ℕ)) → Listed words.entry ws → Means R.Written.reads ws result }
 {
+    // Each arm reads its two ends itself: with one function for both, tried, what its `None` says is not found in a proof here.
     match words {
         FewWords::Two("terminals", count) => Some(Order::Terminals(number_of(count)?)),
         FewWords::Three("shut", from, to) => Some(Order::Shut(Ends {

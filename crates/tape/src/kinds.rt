@@ -125,7 +125,7 @@ impl Kind {
         u8::from(self)
     }
 
-    // The number of bytes in the body of a record of this kind.
+    // The number of bytes in the body of a record of this kind: a table of the format, with an arm for each length.
     pub fn body_length(self) -> usize
         ensures { result ≡ body_length self }
     {

@@ -43,6 +43,7 @@ pub fn write_all(contents: &[Content], area: &mut [u8]) -> Result<usize, WriteFa
     if !fit_in(contents, area.len()) {
         return Err(WriteFault::AreaTooShort);
     }
+    // No index: the number of bytes so far, which is the answer.
     let mut at = 0;
     for content in contents {
         at += content.write(&mut area[at..])?;
@@ -59,6 +60,7 @@ pub fn rewrite(tape: &[u8], area: &mut [u8]) -> Result<usize, Fault>
     if area.len() < tape.len() {
         return Err(Fault::from(WriteFault::AreaTooShort));
     }
+    // No index: the number of bytes so far, which is the answer.
     let mut at = 0;
     for record in Reader::new(tape) {
         let content = record?.content()?;

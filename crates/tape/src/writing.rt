@@ -51,6 +51,7 @@ impl Content {
             return Err(WriteFault::AreaTooShort);
         }
         area[0] = self.kind().byte();
+        // A table of the format: an arm for each shape of body.
         match self {
             Content::Head(h) => put_body(area, &<[u8; 11]>::from(*h)),
             Content::Post(l) | Content::Try(l) => put_body(area, &<[u8; 12]>::from(*l)),

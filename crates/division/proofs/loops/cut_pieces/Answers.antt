@@ -1,5 +1,5 @@
-use Rattle.std.proofs.Common.{◌≡◌, ℕ, ◌+◌, take, set, refl, ◌∙◌, subst, arith}
-use Rattle.std.proofs.lemmas.List.{drop-set-lt}
+use Rattle.std.proofs.Common.{◌≡◌, ℕ, ◌+◌, ◌≤◌, length, take, set, refl, subst, arith}
+use Rattle.std.proofs.lemmas.List.{length-take, take-append-le}
 use Rattle.records.specs.declared.Piece.{Piece}
 use Rattle.pieces.specs.Sides.{ends_of}
 use Rattle.pieces.specs.Cuts.{whole}
@@ -9,47 +9,46 @@ use Rattle.division.proofs.Turning.{begun, refit, turned}
 use Rattle.division.proofs.loops.cut_pieces.Goals as goal
 
 pub loop-p-init : goal.loop-p-init
-loop-p-init c = (
-  refl,
-  λ n f. (
-    f.list_room,
-    begun n (ends_of c.args.sides.now) f.filled c.args.pieces.now c.new-waiting.result.items.now c.new-waiting.result.len c.whole.result c.push.new.self.len c.push.new.self.items.now
-        c.new-waiting.ensures.empty c.whole.ensures c.in_ok-push.ensures.pushed,
-  ),
+loop-p-init c n f = (
+  f.list_room,
+  begun n (ends_of c.args.sides.now) f.filled _ c.new-waiting.result.items.now c.new-waiting.result.len c.whole.result c.push.new.self.len c.push.new.self.items.now
+      c.new-waiting.ensures.empty c.whole.ensures c.in_ok-push.ensures.pushed,
 )
 
-pub returns-in_err-pieces-clause-cut : goal.returns-in_err-pieces-clause-cut
-returns-in_err-pieces-clause-cut c n f =
+pub returns-in_err-record-clause-cut : goal.returns-in_err-record-clause-cut
+returns-in_err-record-clause-cut c n f =
     let e = ends_of c.args.sides.now in
+    let long : length (take c.args.count c.args.pieces.now) ≡ c.args.count = omega (arith, length-take c.args.count c.args.pieces.now, c.requires.room) in
     let g = refit n e c.args.count c.new-waiting.result.items.now c.args.todo.now c.new-waiting.result.len c.whole.result c.push.new.self.len c.push.new.self.items.now c.new-waiting.ensures.same c.in_ok-push.ensures.pushed f in
-    let u = c.loop-p.invariant.1 n g in
-    let r = turned n e f.filled c.loop-p.p c.loop-p.pieces c.loop-p.waiting.items.now c.loop-p.waiting.len _ _ _ c.in_err-pieces.ensures.turn (omega (arith, f.pieces)) (omega arith) u.0 u.1 in
+    let u = c.loop-p.invariant n g in
+    let r = turned n e f.filled c.loop-p.p c.loop-p.records c.loop-p.waiting.items.now c.loop-p.waiting.len _ _ _ c.in_err-record.ensures.turn (omega (arith, f.pieces, long)) (omega arith) u.0 u.1 in
     let q = r.1.answer in
     absurd cc
 
 pub loop-p-preserved : goal.loop-p-preserved
-loop-p-preserved c =
+loop-p-preserved c n f =
     let e = ends_of c.args.sides.now in
-    let D = c.in_ok-pieces.field-0 in (
-      drop-set-lt c.args.count c.loop-p.pieces c.loop-p.p D c.loop-p-test.true ∙ c.loop-p.invariant.0,
-      λ n f.
-          let u = c.loop-p.invariant.1 n f in
-          let r = turned n e f.filled c.loop-p.p c.loop-p.pieces c.loop-p.waiting.items.now c.loop-p.waiting.len _ _ _ c.in_ok-pieces.ensures.turn (omega (arith, f.pieces)) (omega arith) u.0 u.1 in
-          let q = r.1.answer in
-          let same : r.0 ≡ D = cc in (
-            r.1.list_room,
-            subst (λ (x : Piece). UnderWay n e (c.loop-p.p + 1) (set c.loop-p.pieces c.loop-p.p x) c.cut_next.new.todo.items.now c.cut_next.new.todo.len) same r.1.under_way,
-          ),
+    let long : length (take c.args.count c.args.pieces.now) ≡ c.args.count = omega (arith, length-take c.args.count c.args.pieces.now, c.requires.room) in
+    let D = c.in_ok-record.field-0 in
+    let u = c.loop-p.invariant n f in
+    let r = turned n e f.filled c.loop-p.p c.loop-p.records c.loop-p.waiting.items.now c.loop-p.waiting.len _ _ _ c.in_ok-record.ensures.turn (omega (arith, f.pieces, long)) (omega arith) u.0 u.1 in
+    let q = r.1.answer in
+    let same : r.0 ≡ D = cc in (
+      r.1.list_room,
+      subst (λ (x : Piece). UnderWay n e (c.loop-p.p + 1) (set c.loop-p.records c.loop-p.p x) c.cut_next.new.todo.items.now c.cut_next.new.todo.len) same r.1.under_way,
     )
 
 pub returns-clause-cut : goal.returns-clause-cut
 returns-clause-cut c n f =
     let e = ends_of c.args.sides.now in
+    let long : length (take c.args.count c.args.pieces.now) ≡ c.args.count = omega (arith, length-take c.args.count c.args.pieces.now, c.requires.room) in
     let g = refit n e c.args.count c.new-waiting.result.items.now c.args.todo.now c.new-waiting.result.len c.whole.result c.push.new.self.len c.push.new.self.items.now c.new-waiting.ensures.same c.in_ok-push.ensures.pushed f in
-    let u = c.loop-p.invariant.1 n g in
+    let u = c.loop-p.invariant n g in
     let at : c.loop-p.p ≡ c.args.count = omega arith in
+    let room : c.args.count ≤ length c.loop-p.records = omega arith in
+    let records : Records e 0 whole (take c.args.count c.loop-p.records) = subst (λ (m : ℕ). Records e 0 whole (take m c.loop-p.records)) at
+    (ends n e f.filled c.loop-p.p c.loop-p.records c.loop-p.waiting.items.now c.loop-p.waiting.len (omega (arith, f.pieces)) u.1) in
     record {
       answer = refl;
-      records = subst (λ (m : ℕ). Records e 0 whole (take m c.loop-p.pieces)) at
-          (ends n e f.filled c.loop-p.p c.loop-p.pieces c.loop-p.waiting.items.now c.loop-p.waiting.len (omega (arith, f.pieces)) u.1);
+      records = rw take-append-le records;
     }
