@@ -37,7 +37,7 @@ fn cut_next(sides: &[Side], p: u16, todo: &mut Stack<'_, Piece>) -> Result<Piece
 }
 
 // Cuts the whole plan: the first `count` records are written in the order of their numbers, and no other.
-pub fn cut_pieces(
+pub(crate) fn cut_pieces(
     sides: &[Side],
     count: u16,
     pieces: &mut [Piece],

@@ -9,7 +9,7 @@ ghost use Rattle.piece_rates.specs.Changes.{AllShown};
 
 use rates::kind::Rate;
 use records::Piece;
-use sheets::{ROW, SHEET, write_each};
+use sheets::{ROW, SHEET};
 
 // The place k of a sheet with so many edge terminals: staying put costs nothing, and no terminal reaches another.
 fn bare_at<R: Rate>(count: usize, k: usize) -> R
@@ -28,7 +28,9 @@ fn write_bare_sheet<R: Rate>(piece: Piece, sheet: &mut [R])
     ensures { (k : ℕ) → k < 64 → slice_index_or (map R.means sheet.new) k R.kind.none ≡ bare_place R.kind (length (listed piece.edges)) k }
 {
     let count = piece.edges.len();
-    write_each(sheet, |k| bare_at(count, k));
+    for (k, place) in sheet.iter_mut().enumerate() {
+        *place = bare_at(count, k);
+    }
 }
 
 // Writes the sheets of the pieces that there is room for, as they are while no lane stands.

@@ -37,7 +37,7 @@ pub fn better_joined<R: Rate>(best: R, one: R, other: R) -> R
 }
 
 // Writes f(k) at each place k of an area.
-pub fn write_each<R: Copy, F: Fn(usize) -> R>(area: &mut [R], f: F)
+pub(crate) fn write_each<R: Copy, F: Fn(usize) -> R>(area: &mut [R], f: F)
     requires { (k : ℕ) → k < length area.old → F.pre f k }
     ensures { EachPlace (F.post f) area.new }
 {

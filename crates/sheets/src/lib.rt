@@ -5,7 +5,7 @@ mod cells;
 mod leaf;
 mod parent;
 
-pub use cells::{ROW, SHEET, better_joined, clear_rates, rate_at, write_each};
+pub use cells::{ROW, SHEET, better_joined, clear_rates, rate_at};
 pub use holders::{piece_at, side_at};
 pub use leaf::{Both, Triangle, write_leaf};
 pub use parent::{Cut, place_of, write_parent};
