@@ -1,8 +1,8 @@
 -- The side area: its records as the preorder of a triangulated ring, the fill, and finding a side by its ends.
 -- Assumes nothing.
-use Rattle.std.specs.Prelude.{◌≡◌, ℕ, ◌-◌, ◌<◌, ◌≤◌, false, List, map, length, take, drop, IfSome, Some, Decides, Option, slice_index_or}
+use Rattle.std.specs.Prelude.{◌≡◌, ℕ, ◌+◌, ◌-◌, ◌<◌, ◌≤◌, false, List, map, length, take, drop, IfSome, Some, Decides, Option, slice_index_or}
 use Rattle.trips.specs.Links.{Terminal, Ends, Named, SameLink}
-use Rattle.triangulation.specs.Trees.{Tree, RingTree, side_count, preorder, side}
+use Rattle.triangulation.specs.Trees.{Tree, RingTree, side_count, preorder, side, Before}
 use Rattle.triangulation.specs.Filling.{Filled}
 use Rattle.triangulation.specs.Geometry.{ByPlace}
 use Rattle.ring.specs.declared.Area.{Area}
@@ -39,6 +39,12 @@ pub record FilledWith (n : ℕ) (links marks : List Link) (before after : List S
 -- What the fill leaves: all links are marked.
 abbrev pub Fills : ℕ → List Link → List Side → List Side → Type 0
 Fills n links before after = FilledWith n links links before after
+
+-- The place r splits the first records: the one before it comes before the side {low, high} in preorder, the one at it does not.
+pub record Splits (sides : List Side) (count : ℕ) (low high : Terminal) (r : ℕ) : Type 0 where
+  pub within : r ≤ count
+  pub below : (k : ℕ) → k + 1 ≡ r → Before (side_at sides k).low (side_at sides k).high low high
+  pub above : r < count → Before (side_at sides r).low (side_at sides r).high low high → ⊥
 
 -- What a search for the side with the ends a and b answers. A place that is answered always holds such a side; and if the
 -- area is the preorder of a triangulation, the place of the side is answered wherever there is one.
