@@ -20,19 +20,19 @@ module _ (e : Ends) (p : ℕ) (ts : List Piece) (k : ℕ) (P : Piece) (k₁ : �
   next_is : (j : ℕ) → k ≡ suc j → (k₁ ≡ j) × (P ≡ get_or ts j whole)
   next_is j q = let h : k₁ ≡ j = omega (arith, off.shorter) in (h, off.stood whole ∙ ap (λ i. get_or ts i whole) h)
 
-  pub turn_uncut : (t : ℕ) (D : Piece) → t ≡ size (span e) P → t ≤ 1 → D ≡ single e P → Turn e p ts k (Ok D) ts₁ k₁
+  pub turn_uncut : (t : ℕ) (D : Piece) → t ≡ size (span e) P → t ≤ 1 → D ≡ single e P → Turn e p ts k (Ok tt) D ts₁ k₁
   turn_uncut t D is one made =
       record {
         uncut = λ j q _.
             let h = next_is j q in
-            record { answer = cc (made ∙ ap (single e) h.1); list = off.same; waiting = h.0 };
+            record { answer = refl; record_is = made ∙ ap (single e) h.1; list = off.same; waiting = h.0 };
         cut = λ j q _ two. let h = next_is j q in absurd (omega (arith, is, ap (size (span e)) h.1));
       }
 
   -- with both parts on the list the record is D; without room nothing is said
-  pub turn_cut : {F : Type 0} (t : ℕ) (D A B : Piece) (both : Result Unit F) (r : Result Piece Undivided) (k₂ : ℕ) (ts₂ : List Piece)
+  pub turn_cut : {F : Type 0} (t : ℕ) (D A B : Piece) (both : Result Unit F) (r : Result Unit Undivided) (k₂ : ℕ) (ts₂ : List Piece)
       → t ≡ size (span e) P → 1 < t → D ≡ cut_record e p P → A ≡ first_of (span e) p P → B ≡ second_of (span e) p P
-      → BothWait both k₁ ts₁ A B k₂ ts₂ → (both ≡ Ok tt → r ≡ Ok D) → Turn e p ts k r ts₂ k₂
+      → BothWait both k₁ ts₁ A B k₂ ts₂ → (both ≡ Ok tt → r ≡ Ok tt) → Turn e p ts k r D ts₂ k₂
   turn_cut t D A B both r k₂ ts₂ is many made first second wait done =
       record {
         uncut = λ j q one. let h = next_is j q in absurd (omega (arith, is, ap (size (span e)) h.1));
@@ -42,7 +42,8 @@ module _ (e : Ends) (p : ℕ) (ts : List Piece) (k : ℕ) (P : Piece) (k₁ : �
             let f = first ∙ ap (first_of (span e) p) h.1 in
             let s = second ∙ ap (second_of (span e) p) h.1 in
             record {
-              answer = done (wait.answer room) ∙ ap Ok (made ∙ ap (cut_record e p) h.1);
+              answer = done (wait.answer room);
+              record_is = made ∙ ap (cut_record e p) h.1;
               list = wait.list room
                   ∙ ap (λ us. set (set us k₁ B) (suc k₁) A) off.same
                   ∙ ap (λ i. set (set ts i B) (suc i) A) h.0
@@ -53,50 +54,48 @@ module _ (e : Ends) (p : ℕ) (ts : List Piece) (k : ℕ) (P : Piece) (k₁ : �
       }
 
 -- with nothing on the list there is nothing to say
-pub turn_none : (e : Ends) (p : ℕ) (ts : List Piece) (k : ℕ) (r : Result Piece Undivided) (ts' : List Piece) (k' : ℕ) → k ≡ 0 → Turn e p ts k r ts' k'
-turn_none e p ts k r ts' k' none =
+pub turn_none : (e : Ends) (p : ℕ) (ts : List Piece) (k : ℕ) (r : Result Unit Undivided) (P' : Piece) (ts' : List Piece) (k' : ℕ) → k ≡ 0 → Turn e p ts k r P' ts' k'
+turn_none e p ts k r P' ts' k' none =
     record {
       uncut = λ j q _. absurd (omega arith);
       cut = λ j q _ _. absurd (omega arith);
     }
 
 -- what a turn leaves of a division that is under way: the record D is written, and it is still under way
-pub record StillUnderWay (n : ℕ) (e : Ends) (p : ℕ) (ps : List Piece) (r : Result Piece Undivided) (ts' : List Piece) (k' : ℕ) (D : Piece) : Type 0 where
-  pub answer : r ≡ Ok D
+pub record StillUnderWay (n : ℕ) (e : Ends) (p : ℕ) (ps : List Piece) (r : Result Unit Undivided) (ts' : List Piece) (k' : ℕ) (D : Piece) : Type 0 where
+  pub answer : r ≡ Ok tt
   pub list_room : 64 ≤ length ts'
   pub under_way : UnderWay n e (p + 1) (set ps p D) ts' k'
 
 -- a turn keeps the division under way
-pub turned : (n : ℕ) (e : Ends) → Filled n e → (p : ℕ) (ps ts : List Piece) (k : ℕ) (r : Result Piece Undivided) (ts' : List Piece) (k' : ℕ) → Turn e p ts k r ts' k' → p + 5 < 2 * n → p < length ps → 64 ≤ length ts → UnderWay n e p ps ts k → (D : Piece) × StillUnderWay n e p ps r ts' k' D
-turned n e fl p ps ts zero r ts' k' t missing room wide u = absurd (omega (arith, u.line))
-turned n e fl p ps ts (suc j) r ts' k' t missing room wide u =
+pub turned : (n : ℕ) (e : Ends) → Filled n e → (p : ℕ) (ps ts : List Piece) (k : ℕ) (r : Result Unit Undivided) (P' : Piece) (ts' : List Piece) (k' : ℕ) → Turn e p ts k r P' ts' k' → p + 5 < 2 * n → p < length ps → 64 ≤ length ts → UnderWay n e p ps ts k → StillUnderWay n e p ps r ts' k' P'
+turned n e fl p ps ts zero r P' ts' k' t missing room wide u = absurd (omega (arith, u.line))
+turned n e fl p ps ts (suc j) r P' ts' k' t missing room wide u =
     let P = get_or ts j whole in
     let few = few_wait n e fl ts (suc j) p u.line in
     ⊎_elim
     (λ two.
     let d = t.cut j refl (omega arith) two in
     let A = first_of (span e) p P in
-    let B = second_of (span e) p P in (
-      cut_record e p P,
-      record {
-        answer = d.answer;
-        list_room = omega (arith, ap length d.list, length-set (set ts j B) (suc j) A, length-set ts j B);
-        under_way = subst (λ us. UnderWay n e (p + 1) (set ps p (cut_record e p P)) us k') (sym d.list)
-            (subst (UnderWay n e (p + 1) (set ps p (cut_record e p P)) (set (set ts j B) (suc j) A)) (sym d.waiting)
-            (turn_node n e fl p ps ts j P refl room u two (omega arith)));
-      },
-    ))
+    let B = second_of (span e) p P in
+    record {
+      answer = d.answer;
+      list_room = omega (arith, ap length d.list, length-set (set ts j B) (suc j) A, length-set ts j B);
+      under_way = subst (λ us. UnderWay n e (p + 1) (set ps p P') us k') (sym d.list)
+          (subst (UnderWay n e (p + 1) (set ps p P') (set (set ts j B) (suc j) A)) (sym d.waiting)
+          (subst (λ x. UnderWay n e (p + 1) (set ps p x) (set (set ts j B) (suc j) A) (suc (suc j))) (sym d.record_is)
+          (turn_node n e fl p ps ts j P refl room u two (omega arith))));
+    })
     (λ one.
-    let d = t.uncut j refl one in (
-      single e P,
-      record {
-        answer = d.answer;
-        list_room = omega (arith, ap length d.list);
-        under_way = subst (λ us. UnderWay n e (p + 1) (set ps p (single e P)) us k') (sym d.list)
-            (subst (UnderWay n e (p + 1) (set ps p (single e P)) ts) (sym d.waiting)
-            (turn_leaf n e fl p ps ts j P refl room u one));
-      },
-    ))
+    let d = t.uncut j refl one in
+    record {
+      answer = d.answer;
+      list_room = omega (arith, ap length d.list);
+      under_way = subst (λ us. UnderWay n e (p + 1) (set ps p P') us k') (sym d.list)
+          (subst (UnderWay n e (p + 1) (set ps p P') ts) (sym d.waiting)
+          (subst (λ x. UnderWay n e (p + 1) (set ps p x) ts j) (sym d.record_is)
+          (turn_leaf n e fl p ps ts j P refl room u one)));
+    })
     (cases_lt 1 (size (span e) P))
 
 -- the whole plan alone on the list

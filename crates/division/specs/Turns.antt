@@ -8,8 +8,9 @@ use Rattle.pieces.specs.Order.{Records, first_of, second_of, cut_record}
 use Rattle.division.specs.declared.Undivided.{Undivided}
 
 -- the turn was done, with this record, this list and this many waiting
-pub record Done (r : Result Piece Undivided) (ts' : List Piece) (k' : ℕ) (P : Piece) (ts : List Piece) (k : ℕ) : Type 0 where
-  pub answer : r ≡ Ok P
+pub record Done (r : Result Unit Undivided) (P' : Piece) (ts' : List Piece) (k' : ℕ) (P : Piece) (ts : List Piece) (k : ℕ) : Type 0 where
+  pub answer : r ≡ Ok tt
+  pub record_is : P' ≡ P
   pub list : ts' ≡ ts
   pub waiting : k' ≡ k
 
@@ -19,12 +20,12 @@ pub record BothWait {F : Type 0} (r : Result Unit F) (k : ℕ) (ts : List Piece)
   pub list : suc k < length ts → ts' ≡ slice_set (slice_set ts k second) (suc k) first
   pub waiting : suc k < length ts → k' ≡ suc (suc k)
 
--- the turn at the number p, from ts and k to ts' and k'
-pub record Turn (e : Ends) (p : ℕ) (ts : List Piece) (k : ℕ) (r : Result Piece Undivided) (ts' : List Piece) (k' : ℕ) : Type 0 where
+-- the turn at the number p, from ts and k to ts' and k', that writes the record P'
+pub record Turn (e : Ends) (p : ℕ) (ts : List Piece) (k : ℕ) (r : Result Unit Undivided) (P' : Piece) (ts' : List Piece) (k' : ℕ) : Type 0 where
   -- a piece of one triangle is finished
-  pub uncut : (j : ℕ) → k ≡ suc j → size (span e) (slice_index_or ts j whole) ≤ 1 → Done r ts' k' (single e (slice_index_or ts j whole)) ts j
+  pub uncut : (j : ℕ) → k ≡ suc j → size (span e) (slice_index_or ts j whole) ≤ 1 → Done r P' ts' k' (single e (slice_index_or ts j whole)) ts j
   -- a piece of several is cut, and its parts take its place, the first on top
-  pub cut : (j : ℕ) → k ≡ suc j → suc j < length ts → 2 ≤ size (span e) (slice_index_or ts j whole) → Done r ts' k' (cut_record e p (slice_index_or ts j whole)) (slice_set (slice_set ts j (second_of (span e) p (slice_index_or ts j whole))) (suc j) (first_of (span e) p (slice_index_or ts j whole))) (suc (suc j))
+  pub cut : (j : ℕ) → k ≡ suc j → suc j < length ts → 2 ≤ size (span e) (slice_index_or ts j whole) → Done r P' ts' k' (cut_record e p (slice_index_or ts j whole)) (slice_set (slice_set ts j (second_of (span e) p (slice_index_or ts j whole))) (suc j) (first_of (span e) p (slice_index_or ts j whole))) (suc (suc j))
 
 -- n terminals on a filled ring whose sides have the ends e, with `count` pieces, and room for 64 pieces that wait
 pub record Fitting (n : ℕ) (e : Ends) (count : ℕ) (ts : List Piece) : Type 0 where

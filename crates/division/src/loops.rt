@@ -19,21 +19,28 @@ fn wait(todo: &mut Stack<'_, Piece>, first: Piece, second: Piece) -> Result<(), 
     todo.push(first)
 }
 
-// Takes the next piece off the list, puts its parts on the list, and answers its finished record, the record p.
-fn cut_next(sides: &[Side], p: u16, todo: &mut Stack<'_, Piece>) -> Result<Piece, Undivided>
-    ensures turn { Turn (ends_of sides.now) p todo.old.items.now todo.old.len result todo.new.items.now todo.new.len }
+// Takes the next piece off the list, writes its finished record, the record p, and then puts its parts on the list.
+fn cut_next(
+    sides: &[Side],
+    p: u16,
+    record: &mut Piece,
+    todo: &mut Stack<'_, Piece>,
+) -> Result<(), Undivided>
+    ensures turn { Turn (ends_of sides.now) p todo.old.items.now todo.old.len result record.new todo.new.items.now todo.new.len }
     ensures refused { IsOkUnless result NotFilled }
     ensures held { todo.new.items.ghost_name ≡ todo.old.items.ghost_name }
 {
     let piece = todo.pop().ok_or(Undivided::NotFilled)?;
     if triangles(sides, piece.holes, piece.top) <= 1 {
-        return Ok(single(sides, piece));
+        *record = single(sides, piece);
+        return Ok(());
     }
     let seam = seam_of(sides, piece.top, piece.holes);
     let first = first_part(sides, p, piece, seam);
     let size = triangles(sides, first.holes, first.top);
+    *record = parted(sides, p, piece, seam, size);
     wait(todo, first, second_part(sides, p, piece, seam))?;
-    Ok(parted(sides, p, piece, seam, size))
+    Ok(())
 }
 
 // Cuts the whole plan: the first `count` records are written in the order of their numbers, and no other.
@@ -52,7 +59,7 @@ pub(crate) fn cut_pieces(
     waiting.push(whole())?;
     let records = &mut pieces[..count as usize];
     for (p, record) in records.iter_mut().enumerate() {
-        *record = cut_next(sides, p as u16, &mut waiting)?;
+        cut_next(sides, p as u16, record, &mut waiting)?;
     }
     Ok(())
 }

@@ -20,11 +20,15 @@ returns-in_err-wait-clause-turn c =
     let P = c.in_ok-piece.piece in
     let p = c.args.p in
     let some : c.pop.result ≡ Some P = grind arith in
+    let first : c.first_part-first.result ≡ first_of len p P = c.first_part-first.ensures ∙ ap (first_part len p P) c.seam_of-seam.ensures in
+    let made : c.parted.result ≡ cut_record e p P =
+    c.parted.ensures
+    ∙ ap (λ (v : ℕ). parted e p P v c.triangles-size.result) c.seam_of-seam.ensures
+    ∙ ap (parted e p P (seam_in len P)) (c.triangles-size.ensures ∙ ap (size len) first) in
     turn_cut e p c.args.todo.now.items.now c.args.todo.now.len P c.pop.new.self.len c.pop.new.self.items.now
     (taken c.pop.result P _ _ _ _ some c.pop.ensures.popped)
-    c.triangles.result (cut_record e p P) c.first_part-first.result c.second_part.result (Err c.in_err-wait.field-0.0) _ c.wait.new.todo.len c.wait.new.todo.items.now
-    c.triangles.ensures c.if-triangles-le1.false refl
-    (c.first_part-first.ensures ∙ ap (first_part len p P) c.seam_of-seam.ensures)
+    c.triangles.result c.parted.result c.first_part-first.result c.second_part.result (Err c.in_err-wait.field-0.0) _ c.wait.new.todo.len c.wait.new.todo.items.now
+    c.triangles.ensures c.if-triangles-le1.false made first
     (c.second_part.ensures ∙ ap (second_part len p P) c.seam_of-seam.ensures)
     c.in_err-wait.ensures.both (λ q. absurd cc)
 
@@ -42,7 +46,7 @@ returns-clause-turn c =
     ∙ ap (parted e p P (seam_in len P)) (c.triangles-size.ensures ∙ ap (size len) first) in
     turn_cut e p c.args.todo.now.items.now c.args.todo.now.len P c.pop.new.self.len c.pop.new.self.items.now
     (taken c.pop.result P _ _ _ _ some c.pop.ensures.popped)
-    c.triangles.result c.parted.result c.first_part-first.result c.second_part.result (Ok c.in_ok-wait.field-0) (Ok c.parted.result) c.wait.new.todo.len c.wait.new.todo.items.now
+    c.triangles.result c.parted.result c.first_part-first.result c.second_part.result (Ok c.in_ok-wait.field-0) (Ok tt) c.wait.new.todo.len c.wait.new.todo.items.now
     c.triangles.ensures c.if-triangles-le1.false made first
     (c.second_part.ensures ∙ ap (second_part len p P) c.seam_of-seam.ensures)
     c.in_ok-wait.ensures.both (λ _. refl)

@@ -1,10 +1,9 @@
-use Rattle.std.proofs.Common.{◌≡◌, ℕ, ◌+◌, ◌≤◌, length, take, set, refl, subst, arith}
+use Rattle.std.proofs.Common.{◌≡◌, ℕ, ◌≤◌, length, take, refl, subst, arith}
 use Rattle.std.proofs.lemmas.List.{length-take, take-append-le}
-use Rattle.records.specs.declared.Piece.{Piece}
 use Rattle.pieces.specs.Sides.{ends_of}
 use Rattle.pieces.specs.Cuts.{whole}
 use Rattle.pieces.specs.Order.{Records}
-use Rattle.pieces.proofs.Waiting.{UnderWay, ends}
+use Rattle.pieces.proofs.Waiting.{ends}
 use Rattle.division.proofs.Turning.{begun, refit, turned}
 use Rattle.division.proofs.loops.cut_pieces.Goals as goal
 
@@ -15,28 +14,23 @@ loop-p-init c n f = (
       c.new-waiting.ensures.empty c.whole.ensures c.in_ok-push.ensures.pushed,
 )
 
-pub returns-in_err-record-clause-cut : goal.returns-in_err-record-clause-cut
-returns-in_err-record-clause-cut c n f =
+pub returns-in_err-cut_next-clause-cut : goal.returns-in_err-cut_next-clause-cut
+returns-in_err-cut_next-clause-cut c n f =
     let e = ends_of c.args.sides.now in
     let long : length (take c.args.count c.args.pieces.now) ≡ c.args.count = omega (arith, length-take c.args.count c.args.pieces.now, c.requires.room) in
     let g = refit n e c.args.count c.new-waiting.result.items.now c.args.todo.now c.new-waiting.result.len c.whole.result c.push.new.self.len c.push.new.self.items.now c.new-waiting.ensures.same c.in_ok-push.ensures.pushed f in
     let u = c.loop-p.invariant n g in
-    let r = turned n e f.filled c.loop-p.p c.loop-p.records c.loop-p.waiting.items.now c.loop-p.waiting.len _ _ _ c.in_err-record.ensures.turn (omega (arith, f.pieces, long)) (omega arith) u.0 u.1 in
-    let q = r.1.answer in
+    let r = turned n e f.filled c.loop-p.p c.loop-p.records c.loop-p.waiting.items.now c.loop-p.waiting.len _ _ _ _ c.in_err-cut_next.ensures.turn (omega (arith, f.pieces, long)) (omega arith) u.0 u.1 in
+    let q = r.answer in
     absurd cc
 
 pub loop-p-preserved : goal.loop-p-preserved
 loop-p-preserved c n f =
     let e = ends_of c.args.sides.now in
     let long : length (take c.args.count c.args.pieces.now) ≡ c.args.count = omega (arith, length-take c.args.count c.args.pieces.now, c.requires.room) in
-    let D = c.in_ok-record.field-0 in
     let u = c.loop-p.invariant n f in
-    let r = turned n e f.filled c.loop-p.p c.loop-p.records c.loop-p.waiting.items.now c.loop-p.waiting.len _ _ _ c.in_ok-record.ensures.turn (omega (arith, f.pieces, long)) (omega arith) u.0 u.1 in
-    let q = r.1.answer in
-    let same : r.0 ≡ D = cc in (
-      r.1.list_room,
-      subst (λ (x : Piece). UnderWay n e (c.loop-p.p + 1) (set c.loop-p.records c.loop-p.p x) c.cut_next.new.todo.items.now c.cut_next.new.todo.len) same r.1.under_way,
-    )
+    let r = turned n e f.filled c.loop-p.p c.loop-p.records c.loop-p.waiting.items.now c.loop-p.waiting.len _ _ _ _ c.in_ok-cut_next.ensures.turn (omega (arith, f.pieces, long)) (omega arith) u.0 u.1 in
+    (r.list_room, r.under_way)
 
 pub returns-clause-cut : goal.returns-clause-cut
 returns-clause-cut c n f =
