@@ -13,7 +13,6 @@ use crate::cells::{ROW, SHEET, better_joined, cell_at, clear_rates, write_each};
 use rates::kind::Rate;
 use rates::many::better_of_two;
 use records::{Few, Piece};
-use std::array;
 
 // A piece, its two parts, and the ends of the seam between them.
 #[derive(Clone, Copy)]
@@ -47,7 +46,12 @@ pub fn place_of(edges: Few, terminal: u16) -> u8
 fn places_of(edges: Few, terminals: Few) -> [u8; 8]
     ensures { (k : ℕ) → k < length (listed terminals) → slice_index result k ≡ place (listed edges) (slice_index (listed terminals) k) }
 {
-    array::from_fn(|k| place_of(edges, terminals.get(k)))
+    let mut at = [0; 8];
+    // No `array::from_fn`: it searches for eight terminals, where most pieces have two to four.
+    for (k, terminal) in terminals.as_slice().iter().enumerate() {
+        at[k] = place_of(edges, *terminal);
+    }
+    at
 }
 
 // A part as a climb needs it.
