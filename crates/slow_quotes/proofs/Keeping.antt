@@ -4,12 +4,12 @@ use Rattle.std.proofs.Common.{◌≡◌, ℕ, ◌+◌, ◌*◌, ◌<◌, Bool, t
 use Rattle.std.specs.Result.{MatchResult, IsErrAnd}
 use Rattle.std.proofs.lemmas.Bool.{cases_Bool, both_ways, cond-true, cond-false}
 use Rattle.std.proofs.Math.Seq.{take-append_seam}
-use Rattle.std.proofs.lemmas.List.{length-map, nil_from_length}
+use Rattle.std.proofs.lemmas.List.{length-map, get_or_past, nil_from_length}
 use Rattle.rates.specs.Kinds.{Kind, Laws}
 use Rattle.trips.specs.Trips.{LaneMap, Trip, lanes, Earning, NoEarning, changed}
 use Rattle.trips.specs.Trips.Trip.{stay, go}
 use Rattle.trips.proofs.Walks.{no_earning_fewer}
-use Rattle.slow.specs.Areas.{Few, InArea, at, entry, lane_map, LaneArea, Settled, AreasRefused, Tested, LaneSet}
+use Rattle.slow.specs.Areas.{Few, InArea, PairRefused, at, entry, lane_map, LaneArea, Settled, AreasRefused, Tested, LaneSet}
 use Rattle.slow.specs.declared.refusal.Refusal.{Refusal}
 use Rattle.slow.specs.declared.refusal.Refusal.TheVariants.{NoTerminals, TooManyTerminals, WrongLength, NoRate, NoTerminal, NoLaneRate}
 use Rattle.slow_quotes.specs.declared.fault.Fault.{Fault}
@@ -25,8 +25,26 @@ pub handed_on : {T : Type 0} (r : Result T Fault) (why : Refusal) (P : T → Typ
 handed_on (Ok x) why P Q a q = absurd a
 handed_on (Err fault) why P Q a q = subst Q (sym a) q
 
+-- a refusal of two terminals is one of the network, where the area has its length
+pub pair_refused : (n places from to : ℕ) → (Few n → places ≡ n * n) → (why : Refusal) → PairRefused n places from to why → PairRefused n (n * n) from to why
+pair_refused n places from to e NoTerminals h = h
+pair_refused n places from to e TooManyTerminals h = h
+pair_refused n places from to e WrongLength h = absurd (h.1 (e h.0))
+pair_refused n places from to e (NoRate k) h = absurd h
+pair_refused n places from to e NoTerminal h = (h.0, refl, h.2)
+pair_refused n places from to e NoLaneRate h = absurd h
+
 pub pair_within : (n places from to : ℕ) → InArea n places from to → InArea n (n * n) from to
 pair_within n places from to h = record { few = h.few; square = refl; from_below = h.from_below; to_below = h.to_below }
+
+-- two terminals in the area are not refused
+pub pair_not_refused : (n places from to : ℕ) → InArea n places from to → (why : Refusal) → PairRefused n places from to why → ⊥
+pair_not_refused n places from to i NoTerminals h = omega (arith, i.few.some)
+pair_not_refused n places from to i TooManyTerminals h = omega (arith, i.few.not_too_many)
+pair_not_refused n places from to i WrongLength h = h.1 i.square
+pair_not_refused n places from to i (NoRate k) h = h
+pair_not_refused n places from to i NoTerminal h = ⊎_elim (λ z. omega (arith, i.from_below)) (λ z. omega (arith, i.to_below)) h.2
+pair_not_refused n places from to i NoLaneRate h = h
 
 module _ {M : Type 0} (K : Kind M) where
   -- an area of lanes is not refused
@@ -57,6 +75,17 @@ module _ {M : Type 0} (K : Kind M) where
       (λ z. cond-true (ltb u n && ltb v n) (entry K n area u v) K.none z ∙ e (n * u + v))
       (λ z. cond-false (ltb u n && ltb v n) (entry K n area u v) K.none z)
       (cases_Bool (ltb u n && ltb v n))
+
+  pub none_held : (k : ℕ) → at K [] k ≡ K.none
+  none_held k = get_or_past [] k K.none (omega arith)
+
+  -- in a network that is held in order no closed trip earns
+  pub in_order_earns_not : (n : ℕ) (area table : List M) → InOrder K n area table → NoEarning K (lane_map K n area)
+  in_order_earns_not n area table h =
+      ⊎_elim
+      (λ f. f.none_earns)
+      (λ e. subst (λ list. NoEarning K (lane_map K n list)) (sym e.1) (no_lanes_earn_not (none_shown n [] none_held)))
+      h.either
 
   -- why the table of a network without lanes is not filled
   pub count_fault : (n : ℕ) (area table : List M) → EmptyArea K n area → EmptyArea K n table → (why : Refusal) → AreasRefused K n area (length table) why → CountFault n (Refused why)
@@ -93,6 +122,9 @@ module _ {M : Type 0} (K : Kind M) where
     module _ (lanes table : List V) (h : InOrder K n (map means lanes) (map means table)) where
       pub table_places : Few n → length table ≡ n * n
       table_places few = sym (length-map table means) ∙ (filled_from h few).places
+
+      pub lane_places : Few n → length lanes ≡ n * n
+      lane_places few = sym (length-map lanes means) ∙ (filled_from h few).shows.square
 
       -- after a lane was set and the table filled
       pub set_in_order : (lanes' table' : List V) (from to : ℕ) (rate : M) (earns : Bool) → NoEarning K (changed K (lane_map K n (map means lanes)) from to rate) → LaneSet K means n lanes lanes' from to rate → length table' ≡ length table → Settled K n (map means lanes') (map means table') earns → InOrder K n (map means lanes') (map means table')
