@@ -5,11 +5,16 @@ ghost use Rattle.tape.specs.Texts.{text_of, line_of};
 use std::alloc::{AllocError, Global};
 use tape::{Content, Placed};
 
-// The text of a record: the name of its kind, then its fields.
+// The text of a record: the name of its kind, then its fields. A name that stands alone is copied: to print it takes twice as long.
 pub fn text_of(heap: Global, content: Content) -> Result<String, AllocError>
     ensures { IfOk result (λ s. string_bytes s ≡ text_of content) }
 {
-    content.to_string(heap)
+    match content {
+        Content::PlanEnd => String::from_str(heap, "plan-end"),
+        Content::Keep => String::from_str(heap, "keep"),
+        Content::Withdraw => String::from_str(heap, "withdraw"),
+        _ => content.to_string(heap),
+    }
 }
 
 // The same behind the record's place.
