@@ -72,18 +72,7 @@ impl fmt::Display for Kind {
     ghost output = { λ kind. Some (kind_name kind) };
 
     fn fmt<W: fmt::Write>(&self, f: &mut fmt::Formatter<W>) -> fmt::Result {
-        f.write_str(match self {
-            Kind::Head => "head",
-            Kind::Link => "link",
-            Kind::PlanEnd => "plan-end",
-            Kind::Post => "post",
-            Kind::Shut => "shut",
-            Kind::Try => "try",
-            Kind::Keep => "keep",
-            Kind::Withdraw => "withdraw",
-            Kind::Quote => "quote",
-            Kind::Route => "route",
-        })
+        f.write_str(self.name())
     }
 }
 
@@ -123,6 +112,24 @@ impl Kind {
         ensures { result ≡ kind_byte self }
     {
         u8::from(self)
+    }
+
+    // The kind's name in texts.
+    pub fn name(self) -> &'static str
+        ensures { result.now ≡ kind_name self }
+    {
+        match self {
+            Kind::Head => "head",
+            Kind::Link => "link",
+            Kind::PlanEnd => "plan-end",
+            Kind::Post => "post",
+            Kind::Shut => "shut",
+            Kind::Try => "try",
+            Kind::Keep => "keep",
+            Kind::Withdraw => "withdraw",
+            Kind::Quote => "quote",
+            Kind::Route => "route",
+        }
     }
 
     // The number of bytes in the body of a record of this kind: a table of the format, with an arm for each length.

@@ -10,9 +10,9 @@ pub fn text_of(heap: Global, content: Content) -> Result<String, AllocError>
     ensures { IfOk result (λ s. string_bytes s ≡ text_of content) }
 {
     match content {
-        Content::PlanEnd => String::from_str(heap, "plan-end"),
-        Content::Keep => String::from_str(heap, "keep"),
-        Content::Withdraw => String::from_str(heap, "withdraw"),
+        Content::PlanEnd | Content::Keep | Content::Withdraw => {
+            String::from_str(heap, content.kind().name())
+        }
         _ => content.to_string(heap),
     }
 }
